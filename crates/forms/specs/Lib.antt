@@ -1,0 +1,7 @@
+pub mod Characters
+pub mod Checksum
+pub mod Refusals
+pub mod Records
+pub mod Forms
+pub mod Packets
+pub mod Values

@@ -1,0 +1,91 @@
+-- A record's type and values, and the record of a type and values (01 'Telegram forms'). Assumes nothing.
+use Prim.Native.Nat.{ℕ, _+_, _*_, _/_, _%_}
+use Prim.Native.Char.{code}
+use mathlib.Core.Bool.{Bool, true, false, cond}
+use mathlib.Core.List.{List, [], _∷_}
+use lib.Dec.{ltb, eqb}
+use lib.ListN.{getD}
+use Rattle.laws.specs.Truth.{pad}
+use Rattle.forms.specs.declared.records.Radio.{Radio}
+use Rattle.forms.specs.declared.records.Record.{Record}
+use Rattle.forms.specs.declared.records.Record.the-variants.{Approved, Rejected, Request, Idling, Test, Stop, RadioFault, Fault, Position, Train, TrainData, RadioData, RadioUpdate, Transponder}
+
+-- the type letter (001 section 5.2)
+abbrev pub typeOf : Record → ℕ
+typeOf (Approved a) = code "A"
+typeOf (Rejected n) = code "N"
+typeOf (Request b) = code "r"
+typeOf (Idling b) = code "t"
+typeOf (Test m) = code "c"
+typeOf (Stop u) = code "5"
+typeOf (RadioFault s) = code "o"
+typeOf (Fault e) = code "G"
+typeOf (Position p) = code "F"
+typeOf (Train t) = code "n"
+typeOf (TrainData l p h r) = code "B"
+typeOf (RadioData k) = code "K"
+typeOf (RadioUpdate k t) = code "O"
+typeOf (Transponder k w x y z) = code "1"
+
+-- V's two characters as one number of base 256; 0 where one of them is no character
+unfoldable pub paired : ℕ → ℕ → ℕ
+paired left right = cond (ltb left 256) (cond (ltb right 256) (left * 256 + right) 0) 0
+
+-- F D C M V P
+abbrev pub radioValues : Radio → List ℕ → List ℕ
+radioValues k more = k .fc ∷ k .d ∷ k .c ∷ k .mode ∷ paired (k .left) (k .right) ∷ k .position ∷ more
+
+-- a number for each packet of the record's form, in order
+abbrev pub fieldsOf : Record → List ℕ
+fieldsOf (Approved a) = a ∷ []
+fieldsOf (Rejected n) = n ∷ []
+fieldsOf (Request b) = b ∷ []
+fieldsOf (Idling b) = b ∷ []
+fieldsOf (Test m) = m ∷ []
+fieldsOf (Stop u) = u ∷ []
+fieldsOf (RadioFault s) = s ∷ []
+fieldsOf (Fault e) = e ∷ []
+fieldsOf (Position p) = p ∷ []
+fieldsOf (Train t) = t ∷ []
+fieldsOf (TrainData l p h r) = l ∷ p ∷ h ∷ r ∷ []
+fieldsOf (RadioData k) = radioValues k []
+fieldsOf (RadioUpdate k t) = radioValues k (t ∷ [])
+fieldsOf (Transponder k w x y z) = radioValues k (w ∷ x ∷ y ∷ z ∷ [])
+
+-- the same with 0 in the places behind them, as many as the longest form has
+abbrev pub valuesOf : Record → List ℕ
+valuesOf r = pad 10 (fieldsOf r)
+
+abbrev pub radioOf : List ℕ → Radio
+radioOf v =
+    record {
+      fc = getD v 0 0;
+      d = getD v 1 0;
+      c = getD v 2 0;
+      mode = getD v 3 0;
+      left = getD v 4 0 / 256;
+      right = getD v 4 0 % 256;
+      position = getD v 5 0;
+    }
+
+abbrev pub pickRecord : Bool → Record → Record → Record
+pickRecord true a b = a
+pickRecord false a b = b
+
+-- the record of a type letter and values
+unfoldable pub recordOf : ℕ → List ℕ → Record
+recordOf kind v =
+    pickRecord (eqb kind (code "N")) (Rejected (getD v 0 0))
+    (pickRecord (eqb kind (code "r")) (Request (getD v 0 0))
+    (pickRecord (eqb kind (code "t")) (Idling (getD v 0 0))
+    (pickRecord (eqb kind (code "c")) (Test (getD v 0 0))
+    (pickRecord (eqb kind (code "5")) (Stop (getD v 0 0))
+    (pickRecord (eqb kind (code "o")) (RadioFault (getD v 0 0))
+    (pickRecord (eqb kind (code "G")) (Fault (getD v 0 0))
+    (pickRecord (eqb kind (code "F")) (Position (getD v 0 0))
+    (pickRecord (eqb kind (code "n")) (Train (getD v 0 0))
+    (pickRecord (eqb kind (code "B")) (TrainData (getD v 0 0) (getD v 1 0) (getD v 2 0) (getD v 3 0))
+    (pickRecord (eqb kind (code "K")) (RadioData (radioOf v))
+    (pickRecord (eqb kind (code "O")) (RadioUpdate (radioOf v) (getD v 6 0))
+    (pickRecord (eqb kind (code "1")) (Transponder (radioOf v) (getD v 6 0) (getD v 7 0) (getD v 8 0) (getD v 9 0))
+    (Approved (getD v 0 0))))))))))))))

@@ -1,0 +1,189 @@
+// The records (01 'Telegram forms'): a case for each telegram form, and a number for each value that it carries.
+// A number is wide enough that a wrong one can be written down.
+ghost use mathlib.Core.Path.{_≡_};
+ghost use Rattle.forms.specs.Records.{typeOf, valuesOf, recordOf, paired};
+
+// The packets F D C M V P, which K, O and 1 share. V's two characters are left and right.
+pub struct Radio {
+    pub fc: u32,
+    pub d: u32,
+    pub c: u32,
+    pub mode: u32,
+    pub left: u32,
+    pub right: u32,
+    pub position: u32,
+}
+
+pub enum Record {
+    Approved(u32),
+    Rejected(u32),
+    Request(u32),
+    Idling(u32),
+    Test(u32),
+    Stop(u32),
+    RadioFault(u32),
+    Fault(u32),
+    Position(u32),
+    Train(u32),
+    TrainData {
+        length: u32,
+        braking: u32,
+        speed: u32,
+        direction: u32,
+    },
+    RadioData(Radio),
+    RadioUpdate(Radio, u32),
+    Transponder {
+        radio: Radio,
+        ceffect: u32,
+        deffect: u32,
+        sign: u32,
+        country: u32,
+    },
+}
+
+// The type letter of a record's telegram.
+pub fn type_of(rec: Record) -> u8
+    ensures { λ r. ⌜ r ≡ typeOf rec ⌝ }
+{
+    match rec {
+        Record::Approved(_) => b'A',
+        Record::Rejected(_) => b'N',
+        Record::Request(_) => b'r',
+        Record::Idling(_) => b't',
+        Record::Test(_) => b'c',
+        Record::Stop(_) => b'5',
+        Record::RadioFault(_) => b'o',
+        Record::Fault(_) => b'G',
+        Record::Position(_) => b'F',
+        Record::Train(_) => b'n',
+        Record::TrainData {
+            length: _,
+            braking: _,
+            speed: _,
+            direction: _,
+        } => b'B',
+        Record::RadioData(_) => b'K',
+        Record::RadioUpdate(_, _) => b'O',
+        Record::Transponder {
+            radio: _,
+            ceffect: _,
+            deffect: _,
+            sign: _,
+            country: _,
+        } => b'1',
+    }
+}
+
+// Two characters as one number; 0, which no packet permits, where one is no character.
+fn pair(left: u32, right: u32) -> u32
+    ensures { λ r. ⌜ r ≡ paired left right ⌝ }
+{
+    if left < 256 {
+        if right < 256 {
+            return left * 256 + right;
+        }
+    }
+    0
+}
+
+// The values of a record's packets, in their order, with 0 in the places behind them.
+pub fn values_of(rec: Record) -> [u32; 10]
+    ensures { λ r. ⌜ r ≡ valuesOf rec ⌝ }
+{
+    match rec {
+        Record::Approved(a) => [a, 0, 0, 0, 0, 0, 0, 0, 0, 0],
+        Record::Rejected(n) => [n, 0, 0, 0, 0, 0, 0, 0, 0, 0],
+        Record::Request(b) => [b, 0, 0, 0, 0, 0, 0, 0, 0, 0],
+        Record::Idling(b) => [b, 0, 0, 0, 0, 0, 0, 0, 0, 0],
+        Record::Test(m) => [m, 0, 0, 0, 0, 0, 0, 0, 0, 0],
+        Record::Stop(u) => [u, 0, 0, 0, 0, 0, 0, 0, 0, 0],
+        Record::RadioFault(s) => [s, 0, 0, 0, 0, 0, 0, 0, 0, 0],
+        Record::Fault(e) => [e, 0, 0, 0, 0, 0, 0, 0, 0, 0],
+        Record::Position(p) => [p, 0, 0, 0, 0, 0, 0, 0, 0, 0],
+        Record::Train(t) => [t, 0, 0, 0, 0, 0, 0, 0, 0, 0],
+        Record::TrainData {
+            length,
+            braking,
+            speed,
+            direction,
+        } => [length, braking, speed, direction, 0, 0, 0, 0, 0, 0],
+        Record::RadioData(k) => {
+            let v = pair(k.left, k.right);
+            [k.fc, k.d, k.c, k.mode, v, k.position, 0, 0, 0, 0]
+        }
+        Record::RadioUpdate(k, t) => {
+            let v = pair(k.left, k.right);
+            [k.fc, k.d, k.c, k.mode, v, k.position, t, 0, 0, 0]
+        }
+        Record::Transponder {
+            radio,
+            ceffect,
+            deffect,
+            sign,
+            country,
+        } => {
+            let v = pair(radio.left, radio.right);
+            [
+                radio.fc,
+                radio.d,
+                radio.c,
+                radio.mode,
+                v,
+                radio.position,
+                ceffect,
+                deffect,
+                sign,
+                country,
+            ]
+        }
+    }
+}
+
+// The six values that K, O and 1 begin with.
+fn radio_of(v: [u32; 10]) -> Radio
+    ensures { λ r. ⌜ r ≡ Rattle.forms.specs.Records.radioOf v ⌝ }
+{
+    Radio {
+        fc: v[0],
+        d: v[1],
+        c: v[2],
+        mode: v[3],
+        left: v[4] / 256,
+        right: v[4] % 256,
+        position: v[5],
+    }
+}
+
+// The record of a type letter and its values; a letter that no form has gives the record of A.
+pub fn record_of(kind: u8, v: [u32; 10]) -> Record
+    ensures { λ r. ⌜ r ≡ recordOf kind v ⌝ }
+{
+    match kind {
+        b'N' => Record::Rejected(v[0]),
+        b'r' => Record::Request(v[0]),
+        b't' => Record::Idling(v[0]),
+        b'c' => Record::Test(v[0]),
+        b'5' => Record::Stop(v[0]),
+        b'o' => Record::RadioFault(v[0]),
+        b'G' => Record::Fault(v[0]),
+        b'F' => Record::Position(v[0]),
+        b'n' => Record::Train(v[0]),
+        b'B' => Record::TrainData {
+            length: v[0],
+            braking: v[1],
+            speed: v[2],
+            direction: v[3],
+        },
+        b'K' => Record::RadioData(radio_of(v)),
+        b'O' => Record::RadioUpdate(radio_of(v), v[6]),
+        b'1' => Record::Transponder {
+            radio: radio_of(v),
+            ceffect: v[6],
+            deffect: v[7],
+            sign: v[8],
+            country: v[9],
+        },
+        _ => Record::Approved(v[0]),
+    }
+}

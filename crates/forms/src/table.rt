@@ -1,0 +1,285 @@
+// The telegram forms (01 'Telegram forms', 'The three lines and both ends'), one row each, and what they say of a line.
+ghost use mathlib.Core.Path.{_≡_};
+ghost use Prim.Native.Nat.{_<_, _≤_};
+ghost use Rattle.forms.specs.Forms.{isLine, onLine, formOf, byMaster, bySlave, dataType, countOf, widthOf};
+
+// A form: its type, the lines it is on, whether the master sends it (else the slave does), and its packets' letters and value lengths.
+pub struct Form {
+    pub kind: u8,
+    pub lines: [bool; 3],
+    pub master: bool,
+    pub count: u8,
+    pub letters: [u8; 10],
+    pub lens: [u8; 10],
+}
+
+pub const FORMS: [Form; 14] = [
+    Form {
+        kind: b'A',
+        lines: [true, true, true],
+        master: false,
+        count: 1,
+        letters: [b'A', 0, 0, 0, 0, 0, 0, 0, 0, 0],
+        lens: [1, 0, 0, 0, 0, 0, 0, 0, 0, 0],
+    },
+    Form {
+        kind: b'N',
+        lines: [true, true, true],
+        master: false,
+        count: 1,
+        letters: [b'N', 0, 0, 0, 0, 0, 0, 0, 0, 0],
+        lens: [1, 0, 0, 0, 0, 0, 0, 0, 0, 0],
+    },
+    Form {
+        kind: b'r',
+        lines: [true, true, true],
+        master: true,
+        count: 1,
+        letters: [b'B', 0, 0, 0, 0, 0, 0, 0, 0, 0],
+        lens: [1, 0, 0, 0, 0, 0, 0, 0, 0, 0],
+    },
+    Form {
+        kind: b't',
+        lines: [true, true, true],
+        master: true,
+        count: 1,
+        letters: [b'B', 0, 0, 0, 0, 0, 0, 0, 0, 0],
+        lens: [1, 0, 0, 0, 0, 0, 0, 0, 0, 0],
+    },
+    Form {
+        kind: b'c',
+        lines: [true, false, false],
+        master: true,
+        count: 1,
+        letters: [b'm', 0, 0, 0, 0, 0, 0, 0, 0, 0],
+        lens: [1, 0, 0, 0, 0, 0, 0, 0, 0, 0],
+    },
+    Form {
+        kind: b'5',
+        lines: [false, true, false],
+        master: false,
+        count: 1,
+        letters: [b'U', 0, 0, 0, 0, 0, 0, 0, 0, 0],
+        lens: [1, 0, 0, 0, 0, 0, 0, 0, 0, 0],
+    },
+    Form {
+        kind: b'o',
+        lines: [false, false, true],
+        master: true,
+        count: 1,
+        letters: [b'S', 0, 0, 0, 0, 0, 0, 0, 0, 0],
+        lens: [2, 0, 0, 0, 0, 0, 0, 0, 0, 0],
+    },
+    Form {
+        kind: b'G',
+        lines: [true, false, false],
+        master: true,
+        count: 1,
+        letters: [b'E', 0, 0, 0, 0, 0, 0, 0, 0, 0],
+        lens: [3, 0, 0, 0, 0, 0, 0, 0, 0, 0],
+    },
+    Form {
+        kind: b'F',
+        lines: [true, true, false],
+        master: true,
+        count: 1,
+        letters: [b'P', 0, 0, 0, 0, 0, 0, 0, 0, 0],
+        lens: [4, 0, 0, 0, 0, 0, 0, 0, 0, 0],
+    },
+    Form {
+        kind: b'n',
+        lines: [false, false, true],
+        master: true,
+        count: 1,
+        letters: [b'T', 0, 0, 0, 0, 0, 0, 0, 0, 0],
+        lens: [6, 0, 0, 0, 0, 0, 0, 0, 0, 0],
+    },
+    Form {
+        kind: b'B',
+        lines: [true, false, false],
+        master: false,
+        count: 4,
+        letters: [b'L', b'%', b'H', b'R', 0, 0, 0, 0, 0, 0],
+        lens: [3, 3, 3, 2, 0, 0, 0, 0, 0, 0],
+    },
+    Form {
+        kind: b'K',
+        lines: [false, false, true],
+        master: false,
+        count: 6,
+        letters: [b'F', b'D', b'C', b'M', b'V', b'P', 0, 0, 0, 0],
+        lens: [3, 2, 2, 2, 3, 4, 0, 0, 0, 0],
+    },
+    Form {
+        kind: b'O',
+        lines: [false, false, true],
+        master: true,
+        count: 7,
+        letters: [b'F', b'D', b'C', b'M', b'V', b'P', b'T', 0, 0, 0],
+        lens: [3, 2, 2, 2, 3, 4, 6, 0, 0, 0],
+    },
+    Form {
+        kind: b'1',
+        lines: [false, true, false],
+        master: true,
+        count: 10,
+        letters: [b'F', b'D', b'C', b'M', b'V', b'P', b'W', b'X', b'Y', b'Z'],
+        lens: [3, 2, 2, 2, 3, 4, 1, 1, 1, 1],
+    },
+];
+
+// A row that was looked for.
+pub struct Looked {
+    pub found: bool,
+    pub form: Form,
+}
+
+// Whether there is such a line.
+pub fn is_line(line: u8) -> bool
+    ensures { λ r. ⌜ r ≡ isLine line ⌝ }
+{
+    if line < 1 { false } else { line < 4 }
+}
+
+// Whether a form is on a line.
+pub fn on_line(form: Form, line: u8) -> bool
+    ensures { λ r. ⌜ r ≡ onLine form line ⌝ }
+{
+    let lines = form.lines;
+    if line < 1 {
+        return false;
+    }
+    if 3 < line {
+        return false;
+    }
+    lines[(line - 1) as usize]
+}
+
+// Whether a form is the one for this type on this line.
+fn is_row(form: Form, line: u8, kind: u8) -> bool
+    ensures { λ r. ⌜ r ≡ Rattle.forms.specs.Forms.isRow form line kind ⌝ }
+{
+    if form.kind == kind {
+        on_line(form, line)
+    } else {
+        false
+    }
+}
+
+// The row of a type on a line.
+pub fn form_of(line: u8, kind: u8) -> Looked
+    ensures { λ r. ⌜ r ≡ formOf line kind ⌝ }
+{
+    let table = FORMS;
+    let mut i: usize = 0;
+    while i < 14 {
+        let form = table[i];
+        if is_row(form, line, kind) {
+            return Looked {
+                found: true,
+                form: form,
+            };
+        }
+        i = i + 1;
+    }
+    Looked {
+        found: false,
+        form: Form {
+            kind: 0,
+            lines: [false; 3],
+            master: false,
+            count: 0,
+            letters: [0; 10],
+            lens: [0; 10],
+        },
+    }
+}
+
+// Whether the master sends this type on this line.
+pub fn by_master(line: u8, kind: u8) -> bool
+    ensures { λ r. ⌜ r ≡ byMaster line kind ⌝ }
+{
+    let looked = form_of(line, kind);
+    if looked.found {
+        looked.form.master
+    } else {
+        false
+    }
+}
+
+// Whether the slave sends this type on this line.
+pub fn by_slave(line: u8, kind: u8) -> bool
+    ensures { λ r. ⌜ r ≡ bySlave line kind ⌝ }
+{
+    let looked = form_of(line, kind);
+    if looked.found {
+        !looked.form.master
+    } else {
+        false
+    }
+}
+
+// Whether a form is the slave's data on a line: the slave sends it, and it is neither A nor N.
+fn is_data(form: Form, line: u8) -> bool
+    ensures { λ r. ⌜ r ≡ Rattle.forms.specs.Forms.isData form line ⌝ }
+{
+    if form.master {
+        return false;
+    }
+    if form.kind == b'A' {
+        return false;
+    }
+    if form.kind == b'N' {
+        return false;
+    }
+    on_line(form, line)
+}
+
+// The slave's data type on a line (B, 5 or K), 0 where there is no such line.
+pub fn data_type(line: u8) -> u8
+    ensures { λ r. ⌜ r ≡ dataType line ⌝ }
+{
+    let table = FORMS;
+    let mut i: usize = 0;
+    while i < 14 {
+        let form = table[i];
+        if is_data(form, line) {
+            return form.kind;
+        }
+        i = i + 1;
+    }
+    0
+}
+
+// A number of bytes that is added to others.
+fn wide(n: u8) -> usize
+    ensures { λ r. ⌜ (r ≡ n) × (r < 256) ⌝ }
+{
+    n as usize
+}
+
+// How many packets a form has, at most ten.
+pub fn count_of(form: Form) -> usize
+    ensures { λ r. ⌜ r ≡ countOf form ⌝ }
+{
+    if 10 < form.count {
+        10
+    } else {
+        form.count as usize
+    }
+}
+
+// How many bytes a form's packets fill.
+pub fn width_of(form: Form) -> usize
+    ensures { λ r. ⌜ (r ≡ widthOf form) × (r ≤ 2560) ⌝ }
+{
+    let lens = form.lens;
+    let count = count_of(form);
+    let mut width: usize = 0;
+    let mut j: usize = 0;
+    while j < count {
+        width = width + 1 + wide(lens[j]);
+        j = j + 1;
+    }
+    width
+}

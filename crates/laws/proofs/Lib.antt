@@ -1,0 +1,5 @@
+pub mod Tests
+pub mod Stretch
+pub mod Truths
+pub mod Listed
+pub mod Digits

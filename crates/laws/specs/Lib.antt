@@ -1,0 +1,3 @@
+pub mod Truth
+pub mod Text
+pub mod Numerals

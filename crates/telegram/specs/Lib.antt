@@ -1,0 +1,5 @@
+pub mod Answers
+pub mod Frame
+pub mod Field
+pub mod Reading
+pub mod Writing

@@ -1,0 +1,32 @@
+-- What bytes on a line read as (01 'Numbered answers'). Assumes nothing.
+use Prim.Native.Nat.{ℕ, _-_}
+use Prim.Native.Char.{code}
+use mathlib.Core.Bool.{Bool, true, false, cond}
+use mathlib.Core.List.{List, _++_}
+use lib.ListN.{length, getD}
+use Rattle.forms.specs.Forms.{slotsOf, formOf, isLine}
+use Rattle.forms.specs.Records.{recordOf}
+use Rattle.forms.specs.declared.records.Record.{Record}
+use Rattle.telegram.specs.declared.answers.Spot.{Spot}
+use Rattle.telegram.specs.Answers.{Answer, accepts, refuses, firstFault, unless}
+use Rattle.telegram.specs.Frame.{fieldOf, frameChecks}
+use Rattle.telegram.specs.Field.{valuesIn, fieldChecks}
+
+abbrev pub pickAnswer : Bool → Answer → Answer → Answer
+pickAnswer true a b = a
+pickAnswer false a b = b
+
+-- the record that a telegram of a known type carries
+unfoldable pub recordIn : ℕ → List ℕ → Record
+recordIn line s = recordOf (getD s 3 0) (valuesIn 10 (slotsOf (formOf line (getD s 3 0) .form)) (fieldOf s))
+
+-- reading checks 1 to 11 in order
+unfoldable pub checks : ℕ → List ℕ → List Spot
+checks line s = frameChecks s ++ fieldChecks line s
+
+-- 15 comes before all; a reading is a record with its number or the first refusal with its place
+unfoldable pub readingOf : ℕ → List ℕ → Answer
+readingOf line s =
+    pickAnswer (isLine line)
+    (unless (firstFault 1 (checks line s)) (accepts (recordIn line s) (getD s 4 0 - code "0")))
+    (refuses 15 0)

@@ -1,0 +1,39 @@
+-- What writing a record on a line does (01 'Numbered answers'). Assumes nothing.
+use Prim.Native.Nat.{ℕ}
+use mathlib.Core.Bool.{Bool, true, false}
+use mathlib.Core.List.{List, _++_}
+use lib.Dec.{ltb, leb}
+use lib.ListN.{length, drop}
+use Rattle.laws.specs.Truth.{both}
+use Rattle.forms.specs.Forms.{slotsOf, formOf, isLine}
+use Rattle.forms.specs.Records.{typeOf, valuesOf}
+use Rattle.forms.specs.Values.{permitsRecord, lengthOf}
+use Rattle.forms.specs.declared.records.Record.{Record}
+use Rattle.telegram.specs.Answers.{Outcome, wrote, refusesTo}
+use Rattle.telegram.specs.Frame.{frameOf}
+use Rattle.telegram.specs.Field.{dataOf}
+
+-- the telegram of a record with its number on a line
+unfoldable pub telegramOf : ℕ → Record → ℕ → List ℕ
+telegramOf line rec number = frameOf (typeOf rec) number (dataOf (slotsOf (formOf line (typeOf rec) .form)) (valuesOf rec))
+
+-- the outcome, and the output behind it
+abbrev pub Write : Type 0
+Write = Outcome × List ℕ
+
+abbrev pub pickWrite : Bool → Write → Write → Write
+pickWrite true a b = a
+pickWrite false a b = b
+
+-- 15, then 12, 13, 14; a refused call leaves the output; what lies behind the telegram keeps its old bytes
+unfoldable pub writingOf : ℕ → Record → ℕ → List ℕ → Write
+writingOf line rec number out =
+    pickWrite (isLine line)
+    (pickWrite (formOf line (typeOf rec) .found)
+    (pickWrite (both (permitsRecord line rec) (ltb number 2))
+    (pickWrite (leb (lengthOf line rec) (length out))
+    (wrote (lengthOf line rec), telegramOf line rec number ++ drop (lengthOf line rec) out)
+    (refusesTo 14 0, out))
+    (refusesTo 13 0, out))
+    (refusesTo 12 0, out))
+    (refusesTo 15 0, out)
