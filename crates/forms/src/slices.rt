@@ -1,5 +1,6 @@
 // Reading a slice at any place: no caller need look first.
 ghost use mathlib.Core.Path.{_≡_};
+ghost use Prim.Native.Nat.{_-_};
 ghost use lib.ListN.{take, drop, getD};
 
 // The byte at a place, 0 past the end.
@@ -22,4 +23,11 @@ pub fn part(s: &[u8], from: usize, count: usize) -> &[u8]
     }
     let end = from + count;
     &s[from..end]
+}
+
+// A length less a number of bytes, 0 where it has fewer.
+pub fn less(n: usize, k: usize) -> usize
+    ensures { λ r. ⌜ r ≡ n - k ⌝ }
+{
+    if n < k { 0 } else { n - k }
 }

@@ -2,9 +2,11 @@
 use Prim.Native.Nat.{ℕ, zero, suc, _+_, _-_}
 use mathlib.Core.Bool.{Bool, true, false, cond}
 use mathlib.Core.List.{List, [], _∷_, _++_}
-use lib.Dec.{eqb}
+use lib.Dec.{eqb, leb}
 use lib.ListN.{length, getD, take, drop}
+use Rattle.laws.specs.Truth.{both, either}
 use Rattle.forms.specs.Characters.{inSet}
+use Rattle.forms.specs.Packets.{isDecimal}
 use Rattle.forms.specs.Forms.{Slot, slotsOf, widthOf, formOf}
 use Rattle.forms.specs.Values.{textOf, valueOf, permitted}
 use Rattle.forms.specs.declared.table.Form.{Form}
@@ -48,6 +50,13 @@ unfoldable pub valuesIn : ℕ → List Slot → List ℕ → List ℕ
 valuesIn zero ps d = []
 valuesIn (suc n) [] d = 0 ∷ valuesIn n [] d
 valuesIn (suc n) (p ∷ ps) d = valueOf (p .letter) (valueText p d) ∷ valuesIn n ps (after p d)
+
+-- a value of so many characters is a number of 32 bits
+unfoldable pub narrow : ℕ → ℕ → Bool
+narrow letter len = both (leb len 6) (either (isDecimal letter) (leb len 3))
+
+abbrev pub narrowSlot : Slot → Bool
+narrowSlot p = narrow (p .letter) (p .len)
 
 -- data field of another length (place 5), or a packet letter wrong
 unfoldable pub misshapen : Form → List ℕ → Spot

@@ -30,6 +30,13 @@ bodyOf kind number field = countText (length field + 8) ++ (kind ∷ (code "0" +
 unfoldable pub frameOf : ℕ → ℕ → List ℕ → List ℕ
 frameOf kind number field = lf ∷ (bodyOf kind number field ++ (checkText (checksumOf (bodyOf kind number field)) ++ (cr ∷ [])))
 
+-- what stands before the data field of a telegram of n bytes, and behind it
+abbrev pub headText : ℕ → ℕ → ℕ → List ℕ
+headText n kind number = lf ∷ (countText n ++ (kind ∷ (code "0" + number) ∷ []))
+
+abbrev pub tailText : ℕ → List ℕ
+tailText sum = checkText sum ++ (cr ∷ [])
+
 -- the bytes of a telegram that its checksum sums
 unfoldable pub summedOf : List ℕ → List ℕ
 summedOf s = take (length s - 4) (drop 1 s)

@@ -1,0 +1,8 @@
+pub mod Framing
+pub mod Digits
+pub mod Walk
+pub mod Filled
+pub mod Narrow
+pub mod Put
+pub mod Contents
+pub mod Writes
