@@ -1,8 +1,9 @@
 -- A search along the rows of the table: a row that is hit, and one that is missed. Assumes nothing.
 use mathlib.Core.Path.{_≡_, refl, sym, _∙_}
 use mathlib.Core.Bool.{Bool, true, false, cond}
-use mathlib.Core.List.{List}
-use Prim.Native.Nat.{ℕ, _<_, _+_}
+use mathlib.Core.List.{List, [], _∷_}
+use Prim.Native.Nat.{ℕ, zero, suc, _<_, _+_}
+use native.Mathlib.Nat.{le-of-suc-le-suc, not-suc-le-zero}
 use native.Mathlib.Numerals.{add-one}
 use lib.ListN.{length, drop, getD}
 use lib.Seq.{drop-cons}
@@ -36,3 +37,9 @@ module _ (m a n o : Bool) (e : m ≡ false) where
 
   pub is-other : a ≡ false → n ≡ false → o ≡ cond m false (cond a false (cond n false o))
   is-other h k = rw (e, h, k)
+
+-- what stands within a list does not depend on what stands for what is missing
+pub within : {A : Type 0} (l : List A) (i : ℕ) (d e : A) → i < length l → getD l i d ≡ getD l i e
+within [] i d e h = absurd (not-suc-le-zero h)
+within (x ∷ l) zero d e h = refl
+within (x ∷ l) (suc i) d e h = within l i d e (le-of-suc-le-suc h)

@@ -3,5 +3,3 @@ pub mod Checksum
 pub mod Refusals
 pub mod Records
 pub mod Forms
-pub mod Packets
-pub mod Values

@@ -1,7 +1,8 @@
 // The telegram forms (01 'Telegram forms', 'The three lines and both ends'), one row each, and what they say of a line.
 ghost use mathlib.Core.Path.{_≡_};
 ghost use Prim.Native.Nat.{_<_, _≤_};
-ghost use Rattle.forms.specs.Forms.{isLine, onLine, formOf, byMaster, bySlave, dataType, countOf, widthOf};
+ghost use lib.ListN.{getD};
+ghost use Rattle.forms.specs.Forms.{forms, none, isLine, onLine, formOf, byMaster, bySlave, dataType, countOf, widthOf};
 
 // A form: its type, the lines it is on, whether the master sends it (else the slave does), and its packets' letters and value lengths.
 pub struct Form {
@@ -166,14 +167,31 @@ fn is_row(form: Form, line: u8, kind: u8) -> bool
     }
 }
 
+// A row of the table; past its end, a form of no type on no line.
+fn row_at(i: usize) -> Form
+    ensures { λ r. ⌜ r ≡ getD forms i none ⌝ }
+{
+    let table = FORMS;
+    if i < 14 {
+        return table[i];
+    }
+    Form {
+        kind: 0,
+        lines: [false; 3],
+        master: false,
+        count: 0,
+        letters: [0; 10],
+        lens: [0; 10],
+    }
+}
+
 // The row of a type on a line.
 pub fn form_of(line: u8, kind: u8) -> Looked
     ensures { λ r. ⌜ r ≡ formOf line kind ⌝ }
 {
-    let table = FORMS;
     let mut i: usize = 0;
     while i < 14 {
-        let form = table[i];
+        let form = row_at(i);
         if is_row(form, line, kind) {
             return Looked {
                 found: true,
@@ -184,14 +202,7 @@ pub fn form_of(line: u8, kind: u8) -> Looked
     }
     Looked {
         found: false,
-        form: Form {
-            kind: 0,
-            lines: [false; 3],
-            master: false,
-            count: 0,
-            letters: [0; 10],
-            lens: [0; 10],
-        },
+        form: row_at(14),
     }
 }
 
@@ -239,10 +250,9 @@ fn is_data(form: Form, line: u8) -> bool
 pub fn data_type(line: u8) -> u8
     ensures { λ r. ⌜ r ≡ dataType line ⌝ }
 {
-    let table = FORMS;
     let mut i: usize = 0;
     while i < 14 {
-        let form = table[i];
+        let form = row_at(i);
         if is_data(form, line) {
             return form.kind;
         }

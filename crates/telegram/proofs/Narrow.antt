@@ -9,7 +9,7 @@ use borrow.Author.Tests.{leb-true}
 use Rattle.laws.specs.Truth.{every, either}
 use Rattle.laws.proofs.Truths.{both-left, both-right, clash}
 use Rattle.forms.specs.Forms.{forms, slotsIn, countOf, slotsOf, lookIn, formOf, isRow, none, pickLooked}
-use Rattle.forms.specs.Packets.{packetOf, isDecimal}
+use Rattle.values.specs.Packets.{packetOf, isDecimal}
 use Rattle.forms.specs.declared.table.Form.{Form}
 use Rattle.telegram.specs.Field.{narrow, narrowSlot}
 

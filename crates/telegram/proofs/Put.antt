@@ -11,7 +11,7 @@ use Rattle.laws.specs.Numerals.{numeralOn}
 use Rattle.laws.proofs.Stretch.{next}
 use Rattle.forms.specs.Checksum.{checksumOf, checkText}
 use Rattle.forms.specs.Forms.{slotsIn, widthIn}
-use Rattle.forms.specs.Values.{textOf, packetText}
+use Rattle.values.specs.Values.{textOf, packetText}
 use Rattle.forms.proofs.Slots.{slots-step}
 use Rattle.telegram.specs.Frame.{countText, bodyOf, frameOf, headText, tailText}
 use Rattle.telegram.specs.Field.{dataOf}

@@ -12,7 +12,7 @@ use Rattle.laws.specs.Truth.{every}
 use Rattle.laws.proofs.Truths.{both-left, both-right}
 use Rattle.forms.specs.Characters.{inSet}
 use Rattle.forms.specs.Forms.{slotsIn}
-use Rattle.forms.specs.Values.{permitted, valueOf}
+use Rattle.values.specs.Values.{permitted, valueOf}
 use Rattle.forms.proofs.Slots.{slots-step}
 use Rattle.telegram.specs.declared.answers.Spot.the-variants.{Nowhere, At}
 use Rattle.telegram.specs.Field.{outside, wrongLetter, badValue, valuesIn, narrow, narrowSlot}

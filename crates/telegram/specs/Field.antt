@@ -6,9 +6,9 @@ use lib.Dec.{eqb, leb}
 use lib.ListN.{length, getD, take, drop}
 use Rattle.laws.specs.Truth.{both, either}
 use Rattle.forms.specs.Characters.{inSet}
-use Rattle.forms.specs.Packets.{isDecimal}
+use Rattle.values.specs.Packets.{isDecimal}
 use Rattle.forms.specs.Forms.{Slot, slotsOf, widthOf, formOf}
-use Rattle.forms.specs.Values.{textOf, valueOf, permitted}
+use Rattle.values.specs.Values.{textOf, valueOf, permitted}
 use Rattle.forms.specs.declared.table.Form.{Form}
 use Rattle.telegram.specs.Frame.{needs, fieldOf}
 use Rattle.telegram.specs.declared.answers.Spot.{Spot}

@@ -7,7 +7,7 @@ use lib.ListN.{length, drop}
 use Rattle.laws.specs.Truth.{both}
 use Rattle.forms.specs.Forms.{slotsOf, formOf, isLine}
 use Rattle.forms.specs.Records.{typeOf, valuesOf}
-use Rattle.forms.specs.Values.{permitsRecord, lengthOf}
+use Rattle.values.specs.Values.{permitsRecord, lengthOf}
 use Rattle.forms.specs.declared.records.Record.{Record}
 use Rattle.telegram.specs.Answers.{Outcome, wrote, refusesTo}
 use Rattle.telegram.specs.Frame.{frameOf}

@@ -3,7 +3,6 @@ ghost use mathlib.Core.Path.{_≡_};
 ghost use Prim.Native.Nat.{_≤_};
 ghost use Rattle.forms.specs.Forms.{slotsOf};
 ghost use Rattle.telegram.specs.Field.{outside, wrongLetter, badValue, misshapen};
-
 use crate::answers::Spot;
 use forms::characters::in_set;
 use forms::slices::byte_at;
@@ -11,7 +10,7 @@ use forms::slices::part;
 use forms::table::Form;
 use forms::table::count_of;
 use forms::table::width_of;
-use forms::values::permits_text;
+use values::values::permits_text;
 
 // A number of bytes that is added to others.
 pub fn wide(n: u8) -> usize

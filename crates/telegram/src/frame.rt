@@ -5,7 +5,6 @@ ghost use Prim.Native.Nat.{ℕ, _+_, _-_, _/_, _%_, _≤_};
 ghost use lib.ListN.{length, drop};
 ghost use Rattle.telegram.specs.Answers.{faultOf, firstFault};
 ghost use Rattle.telegram.specs.Frame.{isTwo, frameChecks};
-
 use crate::answers::Check;
 use forms::checksum::checksum;
 use forms::checksum::hex;

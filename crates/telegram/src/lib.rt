@@ -1,6 +1,6 @@
 // Reading and writing telegrams (01 'The telegram', 'Telegram forms', 'Numbered answers').
 pub mod answers;
-pub mod frame;
 pub mod field;
+pub mod frame;
 pub mod reading;
 pub mod writing;

@@ -6,12 +6,11 @@ ghost use lib.ListN.{length};
 ghost use Rattle.laws.specs.Truth.{every};
 ghost use Rattle.laws.specs.Numerals.{base, nought, numberOn};
 ghost use Rattle.forms.specs.Forms.{slotsOf};
-ghost use Rattle.forms.specs.Packets.{isDecimal};
-ghost use Rattle.forms.specs.Values.{valueOf};
+ghost use Rattle.values.specs.Packets.{isDecimal};
+ghost use Rattle.values.specs.Values.{valueOf};
 ghost use Rattle.telegram.specs.Answers.{answerOf};
 ghost use Rattle.telegram.specs.Field.{valuesIn, narrowSlot};
 ghost use Rattle.telegram.specs.Reading.{inForm, contentsOf, readingOf};
-
 use crate::answers::Check;
 use crate::answers::Reading;
 use crate::answers::Spot;
@@ -20,8 +19,6 @@ use crate::field::outside_set;
 use crate::field::wide;
 use crate::field::wrong_form;
 use crate::frame::frame_check;
-use forms::packets::is_decimal;
-use forms::packets::lead_of;
 use forms::records::record_of;
 use forms::refusals::Refusal;
 use forms::slices::byte_at;
@@ -31,6 +28,8 @@ use forms::table::Form;
 use forms::table::count_of;
 use forms::table::form_of;
 use forms::table::is_line;
+use values::packets::is_decimal;
+use values::packets::lead_of;
 
 // The number that a number's digits and one digit more say.
 fn with_digit(decimal: bool, a: u32, b: u8) -> u32

@@ -9,7 +9,6 @@ ghost use Rattle.telegram.specs.Answers.{outcomeOf};
 ghost use Rattle.telegram.specs.Frame.{countText, frameOf, headText, tailText};
 ghost use Rattle.telegram.specs.Field.{dataOf};
 ghost use Rattle.telegram.specs.Writing.{writingOf};
-
 use crate::answers::Writing;
 use crate::field::wide;
 use crate::frame::count_high;
@@ -25,8 +24,8 @@ use forms::table::count_of;
 use forms::table::form_of;
 use forms::table::is_line;
 use forms::table::width_of;
-use forms::values::permits_record;
-use forms::values::put_packet;
+use values::values::permits_record;
+use values::values::put_packet;
 
 // LF, the byte count of a telegram of n bytes, type and number.
 fn put_head(part: &mut [u8], n: usize, kind: u8, number: u8)

@@ -1,6 +1,6 @@
 use Rattle.telegram.proofs.Walk.{value-right, value-wrong}
 use Rattle.telegram.specs.Field.{badValue}
-use Rattle.forms.specs.Values.{permitted}
+use Rattle.values.specs.Values.{permitted}
 use lib.ListN.{getD}
 use mathlib.Core.List.{List}
 use Rattle.forms.proofs.Slots.{count-small, slots-end}
@@ -20,7 +20,7 @@ use Rattle.telegram.proofs.field.bad_value.Reads as reads
 use Rattle.telegram.proofs.field.bad_value.Lts as lts
 use Rattle.forms.proofs.slices.part.Reads as part-reads
 use Rattle.forms.proofs.table.count_of.Reads as count-of-reads
-use Rattle.forms.proofs.values.permits_text.Reads as permits-text-reads
+use Rattle.values.proofs.values.permits_text.Reads as permits-text-reads
 use Rattle.telegram.proofs.field.wide.Reads as wide-reads
 
 abbrev Inv-loop : tie.InvT-loop
@@ -35,7 +35,7 @@ count-of-requires c κs = search needs
 
 -- src/field.rt:76:5
 loop-holds : tie.Need-loop-holds Inv-loop μ-loop
-loop-holds c = 
+loop-holds c =
     let z : c .count-of .result - 0 ≡ c .count-of .result = omega arith in
     (omega (arith, c .count-of .ensures, count-small (c .before .before .before .before .args .form)), omega arith, omega arith, rw z)
 
@@ -95,7 +95,7 @@ loop-again c = (c .before .before .before .before .before .loop .inv .0, omega a
 -- src/field.rt:68:1
 returns-2 : tie.Need-returns-2 Inv-loop μ-loop
 unfolding slotsOf badValue
-returns-2 c = 
+returns-2 c =
     let a = c .before .before .before .before .before .before .args in let l = c .before .loop in let n = c .before .before .count-of .result in
     let e : slotsIn (n - l .j) (drop (l .j) (a .form .letters)) (drop (l .j) (a .form .lens)) ≡ [] = slots-end (drop (l .j) (a .form .letters)) (drop (l .j) (a .form .lens)) n (l .j) (c .loop-test .left) in
     (rw e at (l .inv .3)) ∙ rw (c .before .before .count-of .ensures)

@@ -55,7 +55,7 @@ loop-again c = (omega arith, sym (byte-in (now (c .before .before .before .befor
 -- src/field.rt:24:1
 returns-2 : tie.Need-returns-2 Inv-loop μ-loop
 unfolding outside
-returns-2 c = 
+returns-2 c =
     let h : c .before .loop .i ≡ length (now (c .before .before .before .args .field)) = omega arith in
     rw (h, drop-length) at (c .before .loop .inv .1)
 

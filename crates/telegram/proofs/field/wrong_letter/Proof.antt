@@ -31,7 +31,7 @@ count-of-requires c κs = search needs
 
 -- src/field.rt:46:5
 loop-holds : tie.Need-loop-holds Inv-loop μ-loop
-loop-holds c = 
+loop-holds c =
     let z : c .count-of .result - 0 ≡ c .count-of .result = omega arith in
     (omega (arith, c .count-of .ensures, count-small (c .before .before .before .before .args .form)), omega arith, omega arith, rw z)
 
@@ -83,7 +83,7 @@ loop-again c = (c .before .before .before .before .loop .inv .0, omega arith, om
 -- src/field.rt:38:1
 returns-2 : tie.Need-returns-2 Inv-loop μ-loop
 unfolding slotsOf wrongLetter
-returns-2 c = 
+returns-2 c =
     let a = c .before .before .before .before .before .before .args in let l = c .before .loop in let n = c .before .before .count-of .result in
     let e : slotsIn (n - l .j) (drop (l .j) (a .form .letters)) (drop (l .j) (a .form .lens)) ≡ [] = slots-end (drop (l .j) (a .form .letters)) (drop (l .j) (a .form .lens)) n (l .j) (c .loop-test .left) in
     (rw e at (l .inv .3)) ∙ rw (c .before .before .count-of .ensures)

@@ -42,14 +42,14 @@ loop-less c = search needs
 
 -- src/reading.rt:55:5
 loop-again : tie.Need-loop-again Inv-loop μ-loop
-loop-again c = 
+loop-again c =
     let a = c .before .before .before .before .before .args in let l = c .before .before .before .loop in
     (omega arith, rw (c .with-digit .ensures) (digit-more (a .decimal) (l .i) (l .a) (getD (now (a .text)) (l .i) 0) (l .inv .1)), rw (c .with-digit .ensures) (sym (number-step (a .decimal) (now (a .text)) (l .i) (l .a) (c .before .before .loop-test .taken)) ∙ l .inv .2))
 
 -- src/reading.rt:49:1
 returns : tie.Need-returns Inv-loop μ-loop
 unfolding numberOn
-returns c = 
+returns c =
     let h : c .before .loop .i ≡ length (now (c .before .before .before .args .text)) = omega arith in
     rw (h, drop-length) at (c .before .loop .inv .2)
 

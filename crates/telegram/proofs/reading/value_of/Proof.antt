@@ -1,5 +1,5 @@
 use Rattle.telegram.proofs.Filled.{length-take-most}
-use Rattle.forms.specs.Values.{valueOf}
+use Rattle.values.specs.Values.{valueOf}
 use lib.Seq.{take-all}
 use lib.ListN.{length, drop, length-drop}
 use Prim.Native.Nat.{_≤_}
@@ -12,8 +12,8 @@ use Rattle.telegram.proofs.reading.value_of.Statement.{statement}
 use Rattle.telegram.proofs.reading.value_of.Tie as tie
 use Rattle.telegram.proofs.reading.value_of.Reads as reads
 use Rattle.telegram.proofs.reading.value_of.Lts as lts
-use Rattle.forms.proofs.packets.is_decimal.Reads as is-decimal-reads
-use Rattle.forms.proofs.packets.lead_of.Reads as lead-of-reads
+use Rattle.values.proofs.packets.is_decimal.Reads as is-decimal-reads
+use Rattle.values.proofs.packets.lead_of.Reads as lead-of-reads
 use Rattle.forms.proofs.slices.part.Reads as part-reads
 use Rattle.telegram.proofs.reading.number_of.Reads as number-of-reads
 
@@ -40,14 +40,14 @@ part-requires c κs = search needs
 
 -- src/reading.rt:73:5
 number-of-requires-2 : tie.Need-number-of-requires-2
-number-of-requires-2 c κs = 
+number-of-requires-2 c κs =
     let l : length (now (c .part .result)) ≤ length (now (c .before .before .before .before .before .args .text)) = rw (c .part .ensures) (length-take-most (length (now (c .before .before .before .before .before .args .text))) (drop 1 (now (c .before .before .before .before .before .args .text)))) in
     (omega (arith, c .before .before .before .before .before .pre .0), λ e. omega (arith, c .before .before .before .before .before .pre .1 (sym (c .before .before .is-decimal .ensures) ∙ e)))
 
 -- src/reading.rt:64:1
 returns-2 : tie.Need-returns-2
 unfolding valueOf
-returns-2 c = 
+returns-2 c =
     let t = now (c .before .before .before .before .before .before .args .text) in
     let p : now (c .before .part .result) ≡ drop 1 t = c .before .part .ensures ∙ take-all (length t) (drop 1 t) (omega (arith, length-drop 1 t)) in
     c .number-of2 .ensures ∙ rw (← (c .before .before .before .before .lead-of .ensures), ne-eqb _ _ (c .before .before .if1 .left), c .before .before .before .is-decimal .ensures, p)

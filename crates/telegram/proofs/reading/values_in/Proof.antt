@@ -2,7 +2,7 @@ use Rattle.telegram.proofs.Narrow.{narrow-says}
 use Rattle.telegram.proofs.Filled.{filled-step, behind-step, filled-end, length-take-most}
 use Rattle.telegram.proofs.Walk.{value-here, narrow-here, narrow-on}
 use Rattle.telegram.specs.Field.{valuesIn, narrowSlot}
-use Rattle.forms.specs.Values.{valueOf}
+use Rattle.values.specs.Values.{valueOf}
 use Rattle.laws.specs.Truth.{every, pad}
 use lib.ListN.{length-set}
 use mathlib.Core.List.{List}
@@ -39,7 +39,7 @@ count-of-requires c κs = search needs
 -- src/reading.rt:86:5
 loop-holds : tie.Need-loop-holds Inv-loop μ-loop
 unfolding slotsOf
-loop-holds c = 
+loop-holds c =
     let z : c .count-of .result - 0 ≡ c .count-of .result = omega arith in
     (omega (arith, c .count-of .ensures, count-small (c .before .before .before .before .args .form)), omega arith, omega arith, refl, refl, rw z, rw (z, c .count-of .ensures) (c .before .before .before .before .pre))
 
@@ -65,7 +65,7 @@ part-requires c κs = search needs
 
 -- src/reading.rt:88:21
 value-of-requires : tie.Need-value-of-requires Inv-loop μ-loop
-value-of-requires c κs = 
+value-of-requires c κs =
     let p = narrow-says _ _ (narrow-here (c .before .before .before .before .before .before .before .before .args .form .letters) (c .before .before .before .before .before .before .before .before .args .form .lens) (now (c .before .before .before .before .before .before .before .before .args .field)) (c .before .before .before .before .count-of .result) (c .before .before .before .loop .j) (c .before .before .before .loop .at) (c .before .before .loop-test .taken) (c .before .before .before .loop .inv .6)) in
     let k : length (now (c .part .result)) ≤ c .before .wide .result = rw (c .part .ensures) (length-take-most (c .before .wide .result) (drop (c .before .before .before .loop .at + 1) (now (c .before .before .before .before .before .before .before .before .args .field)))) in
     (omega (arith, p .0, c .before .wide .ensures .0), λ e. omega (arith, p .1 e, c .before .wide .ensures .0))
@@ -96,7 +96,7 @@ loop-less c = search needs
 
 -- src/reading.rt:86:5
 loop-again : tie.Need-loop-again Inv-loop μ-loop
-loop-again c = 
+loop-again c =
     let l = c .before .before .before .before .loop in
     let w = c .before .before .wide .result in
     let k : 10 - l .j ≡ suc (10 - (l .j + 1)) = omega arith in
@@ -107,7 +107,7 @@ loop-again c =
 -- src/reading.rt:76:1
 returns : tie.Need-returns Inv-loop μ-loop
 unfolding slotsOf
-returns c = 
+returns c =
     let a = c .before .before .before .before .before .before .args in let l = c .before .loop in let n = c .before .before .count-of .result in
     let e : slotsIn (n - l .j) (drop (l .j) (a .form .letters)) (drop (l .j) (a .form .lens)) ≡ [] = slots-end (drop (l .j) (a .form .letters)) (drop (l .j) (a .form .lens)) n (l .j) (c .loop-test .left) in
     filled-end (l .values) (l .j) (drop (l .at) (now (c .before .before .before .before .before .before .args .field))) _ (omega arith) (l .inv .4) (rw e at (l .inv .5)) ∙ rw (c .before .before .count-of .ensures)

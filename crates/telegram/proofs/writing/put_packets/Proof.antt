@@ -18,7 +18,7 @@ use Rattle.telegram.proofs.writing.put_packets.Tie as tie
 use Rattle.telegram.proofs.writing.put_packets.Reads as reads
 use Rattle.telegram.proofs.writing.put_packets.Lts as lts
 use Rattle.forms.proofs.table.count_of.Reads as count-of-reads
-use Rattle.forms.proofs.values.put_packet.Reads as put-packet-reads
+use Rattle.values.proofs.values.put_packet.Reads as put-packet-reads
 use Rattle.telegram.proofs.field.wide.Reads as wide-reads
 
 abbrev Inv-loop : tie.InvT-loop
@@ -34,7 +34,7 @@ count-of-requires c κs = search needs
 -- src/writing.rt:63:5
 loop-holds : tie.Need-loop-holds Inv-loop μ-loop
 unfolding widthOf slotsOf
-loop-holds c = 
+loop-holds c =
     let z : c .count-of .result - 0 ≡ c .count-of .result = omega arith in
     (omega (arith, c .count-of .ensures, count-small (c .before .before .before .before .args .form)), omega arith, refl, rw (z, zero-add, c .count-of .ensures) (sym (c .before .before .before .before .pre)), rw z)
 
@@ -92,12 +92,16 @@ loop-less c = search needs
 
 -- src/writing.rt:63:5
 loop-again : tie.Need-loop-again Inv-loop μ-loop
-loop-again c = 
+loop-again c =
     let a = c .before .before .before .before .before .before .before .before .before .before .before .args in let l = c .before .before .before .before .before .before .loop in let n = c .before .before .before .before .before .before .before .count-of .result in
     let w = c .before .before .before .before .wide in
-    let k = width-here (c .before .before .before .before .before .before .before .before .before .before .before .args .form .letters) (c .before .before .before .before .before .before .before .before .before .before .before .args .form .lens) [] (c .before .before .before .before .before .before .before .count-of .result) (c .before .before .before .before .before .before .loop .j) (c .before .before .before .before .before .loop-test .taken) in
-    (l .inv .0, omega arith, c .before .field .given .1 ∙ l .inv .2, omega (arith, w .ensures .0),
-      packet-here (a .form .letters) (a .form .lens) (a .t3) n (l .j) (c .before .before .before .before .before .loop-test .taken) (l .field) _ _ (l .at) (w .result) (w .ensures .0) (omega (arith, w .ensures .0)) (c .before .before .put-packet .kept .0) (c .before .before .put-packet .ensures) (l .inv .4))
+    let k = width-here (c .before .before .before .before .before .before .before .before .before .before .before .args .form .letters) (c .before .before .before .before .before .before .before .before .before .before .before .args .form .lens) [] (c .before .before .before .before .before .before .before .count-of .result) (c .before .before .before .before .before .before .loop .j) (c .before .before .before .before .before .loop-test .taken) in (
+      l .inv .0,
+      omega arith,
+      c .before .field .given .1 ∙ l .inv .2,
+      omega (arith, w .ensures .0),
+      packet-here (a .form .letters) (a .form .lens) (a .t3) n (l .j) (c .before .before .before .before .before .loop-test .taken) (l .field) _ _ (l .at) (w .result) (w .ensures .0) (omega (arith, w .ensures .0)) (c .before .before .put-packet .kept .0) (c .before .before .put-packet .ensures) (l .inv .4),
+    )
 
 -- src/writing.rt:54:1
 same-length : tie.Need-same-length Inv-loop μ-loop
@@ -106,7 +110,7 @@ same-length c = c .before .loop .inv .2
 -- src/writing.rt:54:1
 returns : tie.Need-returns Inv-loop μ-loop
 unfolding slotsOf dataOf widthIn
-returns c = 
+returns c =
     let a = c .before .before .before .before .before .before .args in let l = c .before .loop in let n = c .before .before .count-of .result in
     let e : slotsIn (n - l .j) (drop (l .j) (a .form .letters)) (drop (l .j) (a .form .lens)) ≡ [] = slots-end (drop (l .j) (a .form .letters)) (drop (l .j) (a .form .lens)) n (l .j) (c .loop-test .left) in
     let k = rw e at (l .inv .3) in

@@ -104,7 +104,7 @@ same-length c = search needs
 
 -- src/writing.rt:72:1
 returns : tie.Need-returns
-returns c = 
+returns c =
     let a = c .before .before .before .before .before .before .before .before .before .before .before .before .before .before .before .before .before .args in
     let w = c .before .before .before .before .before .before .before .before .before .before .before .before .before .before .before .width-of .result in
     let h = c .before .before .before .before .before .before .before .before .before .before .before .before .before .put-head .last .0 in

@@ -16,7 +16,7 @@ use Rattle.forms.proofs.records.values_of.Reads as values-of-reads
 use Rattle.forms.proofs.table.form_of.Reads as form-of-reads
 use Rattle.forms.proofs.table.is_line.Reads as is-line-reads
 use Rattle.forms.proofs.table.width_of.Reads as width-of-reads
-use Rattle.forms.proofs.values.permits_record.Reads as permits-record-reads
+use Rattle.values.proofs.values.permits_record.Reads as permits-record-reads
 use Rattle.telegram.proofs.writing.put_telegram.Reads as put-telegram-reads
 
 -- src/writing.rt:88:9
@@ -77,7 +77,7 @@ same-length c = c .before .before .put-telegram .kept .0
 
 -- src/writing.rt:85:1
 returns-6 : tie.Need-returns-6
-returns-6 c = 
+returns-6 c =
     let k = c .before .before .before .before .before .before .width-of .ensures .0 in
     ap (λ (p : Outcome × List ℕ). p) (rw (k, c .before .before .put-telegram .ensures) (written (c .before .before .before .before .before .before .before .before .before .before .before .before .before .before .before .before .before .before .args .line) (c .before .before .before .before .before .before .before .before .before .before .before .before .before .before .before .before .before .before .args .rec) (c .before .before .before .before .before .before .before .before .before .before .before .before .before .before .before .before .before .before .args .number) (now (c .before .before .before .before .before .before .before .before .before .before .before .before .before .before .before .before .before .before .args .out)) (c .before .before .before .before .before .before .before .before .before .before .before .before .before .before .type-of .result) (c .before .before .before .before .before .before .before .before .before .before .before .before .before .form-of .result) (sym (c .before .before .before .before .before .before .before .before .before .before .before .before .before .before .before .before .is-line .ensures) ∙ not-false _ (c .before .before .before .before .before .before .before .before .before .before .before .before .before .before .before .if1 .left)) (c .before .before .before .before .before .before .before .before .before .before .before .before .before .before .type-of .ensures) (c .before .before .before .before .before .before .before .before .before .before .before .before .before .form-of .ensures) (not-false (c .before .before .before .before .before .before .before .before .before .before .before .before .before .form-of .result .found) (c .before .before .before .before .before .before .before .before .before .before .before .if2 .left)) (sym (c .before .before .before .before .before .before .before .before .before .before .permits-record .ensures) ∙ not-false _ (c .before .before .before .before .before .before .before .before .before .if3 .left)) (c .before .before .before .before .before .before .before .before .if4 .left) (omega arith) _ (c .before .before .before .values-of .ensures)))
 

@@ -1,0 +1,7 @@
+pub mod Cases
+pub mod Counts
+pub mod Lines
+pub mod Set
+pub mod Order
+pub mod Receiver
+pub mod Answers

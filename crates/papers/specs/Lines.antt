@@ -1,0 +1,71 @@
+-- The table of forms has the lines and senders of 01 'The three lines and both ends'. Assumes nothing.
+use mathlib.Core.Path.{_≡_, refl}
+use mathlib.Core.Bool.{Bool, true, cond, not}
+use mathlib.Core.List.{List, [], _∷_}
+use Prim.Native.Nat.{ℕ}
+use Prim.Native.String.{String}
+use lib.Dec.{eqb}
+use lib.ListN.{getD}
+use Rattle.laws.specs.Truth.{both, oneOf, every}
+use Rattle.laws.specs.Text.{codes}
+use Rattle.forms.specs.Forms.{forms, onLine, lookIn, formOf, byMaster, bySlave, dataIn, dataType}
+use Rattle.forms.specs.declared.table.Form.{Form}
+use Rattle.papers.specs.Cases.{All}
+
+-- a line: what the master sends and what the slave sends
+pub record Line : Type 0 where
+  pub line : ℕ
+  pub masters : List ℕ
+  pub slaves : List ℕ
+
+abbrev pub joins : ℕ → String → String → Line
+joins line masters slaves = record { line = line; masters = codes masters; slaves = codes slaves }
+
+-- the paper's table; the slave's data type comes first
+abbrev pub paper : List Line
+paper =
+    joins 1 "cFGrt" "BAN" ∷
+    joins 2 "1Frt" "5AN" ∷
+    joins 3 "Oonrt" "KAN" ∷
+    []
+
+-- if the first test holds, so does the second
+abbrev pub implies : Bool → Bool → Bool
+implies a b = cond a b true
+
+-- a form on a line is sent by the end that lists its type
+abbrev pub listedBy : Line → Form → Bool
+listedBy l f = implies (onLine f (l .line)) (oneOf (cond (f .master) (l .masters) (l .slaves)) (f .kind))
+
+-- the table of forms and the paper's line agree
+pub record Agrees (l : Line) : Type 0 where
+  -- the master sends each type that the paper lists for it
+  pub masters-sent : every (byMaster (l .line)) (l .masters) ≡ true
+  -- and the slave each that it lists for the slave
+  pub slaves-sent : every (bySlave (l .line)) (l .slaves) ≡ true
+  -- each form on the line is listed for the end that sends it
+  pub rows-listed : every (listedBy l) forms ≡ true
+  -- the slave's data type is B, 5 or K
+  pub data-type : dataType (l .line) ≡ getD (l .slaves) 0 0
+
+pub same-lines : All Agrees paper
+unfolding forms onLine lookIn formOf dataIn dataType
+same-lines = search
+
+-- two rows of one line are of two types
+abbrev pub differ : ℕ → Form → Form → Bool
+differ line f g = not (both (both (onLine f line) (onLine g line)) (eqb (f .kind) (g .kind)))
+
+abbrev pub apart : ℕ → List Form → Bool
+apart line [] = true
+apart line (f ∷ fs) = both (every (differ line f) fs) (apart line fs)
+
+-- so no type has two rows on a line
+pub no-two-rows : every (λ (l : Line). apart (l .line) forms) paper ≡ true
+unfolding forms onLine
+no-two-rows = refl
+
+-- of every byte: an end sends it as a type just where the paper lists it for that end
+pub record Exact (l : Line) : Type 0 where
+  pub by-master : (b : ℕ) → byMaster (l .line) b ≡ oneOf (l .masters) b
+  pub by-slave : (b : ℕ) → bySlave (l .line) b ≡ oneOf (l .slaves) b

@@ -1,0 +1,73 @@
+-- The receiver sums all bytes and the checksum, and gets zero (001 section 4.4; 01 'The telegram'). Assumes nothing.
+use mathlib.Core.Path.{_≡_, refl}
+use mathlib.Core.Bool.{Bool, true, false, cond}
+use mathlib.Core.List.{List}
+use Prim.Native.Nat.{ℕ, _+_, _-_, _*_, _/_, _%_, _≤_, _<_}
+use Prim.Native.Char.{code}
+use native.Mathlib.Omega.{arith}
+use lib.Dec.{ltb, leb, eqb}
+use lib.ListN.{length, getD}
+use borrow.Author.Tests.{eqb-true, ltb-true, ltb-false, leb-true, lt-ltb, le-ltb}
+use Rattle.laws.proofs.Truths.{both-left, both-right}
+use Rattle.forms.specs.Checksum.{total, checksumOf, hexOf, checkText}
+use Rattle.forms.specs.declared.records.Record.{Record}
+use Rattle.telegram.specs.declared.answers.Spot.the-variants.{Nowhere}
+use Rattle.telegram.specs.Answers.{accepts}
+use Rattle.telegram.specs.Frame.{summedOf, isTwo, needs, frameChecks}
+use Rattle.telegram.specs.Field.{fieldChecks}
+use Rattle.telegram.specs.Reading.{checks, readingOf}
+use Rattle.papers.specs.Order.{accepted-clean}
+
+-- the sum of any bytes with their checksum is 0 modulo 256
+pub sums-to-zero : (s : List ℕ) → (total s + checksumOf s) % 256 ≡ 0
+unfolding checksumOf
+sums-to-zero s = omega arith
+
+-- the digit of base 16 that a character 0-9 A-F says
+abbrev pub unhex : ℕ → ℕ
+unhex c = cond (ltb c (code "A")) (c - code "0") (c - (code "A" - 10))
+
+-- the number that a telegram's two checksum characters say, high digit first
+abbrev pub receivedSum : List ℕ → ℕ
+receivedSum s = unhex (getD s (length s - 3) 0) * 16 + unhex (getD s (length s - 2) 0)
+
+-- a digit reads back from its character, whichever of the two stretches 0-9 and A-F its character is from
+digit-back : (d : ℕ) (t : Bool) → ltb d 10 ≡ t → unhex (cond t (d + code "0") (d + 55)) ≡ d
+digit-back d true e = let l = ltb-true d 10 e in rw (lt-ltb (d + 48) 65 (omega arith)) (omega arith)
+digit-back d false e = let l = ltb-false d 10 e in rw (le-ltb (d + 55) 65 (omega arith)) (omega arith)
+
+-- so a digit written as a character reads back
+hex-back : (n : ℕ) → unhex (hexOf n) ≡ n % 16
+hex-back n = digit-back (n % 16) (ltb (n % 16) 10) refl
+
+-- and so does a number written as two of them
+two-back : (c high low : ℕ) → c < 256 → high ≡ hexOf (c / 16) → low ≡ hexOf c → unhex high * 16 + unhex low ≡ c
+two-back c high low l p q = rw (p, q, hex-back (c / 16), hex-back c) (omega arith)
+
+-- a checksum is one byte
+checksum-low : (s : List ℕ) → checksumOf s < 256
+unfolding checksumOf
+checksum-low s = omega arith
+
+-- it is 0 for a telegram that passes check 6, with the checksum that its two characters say
+pub telegram-sums-to-zero : (s : List ℕ) → 10 ≤ length s → isTwo s (length s - 3) (checkText (checksumOf (summedOf s))) ≡ true
+    → (total (summedOf s) + receivedSum s) % 256 ≡ 0
+unfolding checkText
+telegram-sums-to-zero s l h =
+    let c : ℕ = checksumOf (summedOf s) in
+    let place : length s - 2 ≡ length s - 3 + 1 = omega arith in
+    let high : getD s (length s - 3) 0 ≡ hexOf (c / 16) = eqb-true _ _ (both-left _ (eqb (getD s (length s - 3 + 1) 0) (hexOf c)) h) in
+    let low : getD s (length s - 2) 0 ≡ hexOf c = rw place (eqb-true _ _ (both-right (eqb (getD s (length s - 3) 0) (hexOf (c / 16))) _ h)) in
+    rw (two-back c (getD s (length s - 3) 0) (getD s (length s - 2) 0) (checksum-low (summedOf s)) high low) (sums-to-zero (summedOf s))
+
+-- a check that finds nothing has passed its test
+passed : (t : Bool) (place : ℕ) → needs t place ≡ Nowhere → t ≡ true
+passed true place h = refl
+passed false place h = cc
+
+-- so it is for every telegram that is accepted
+pub accepted-sums-to-zero : (line : ℕ) (s : List ℕ) (rec : Record) (n : ℕ) → readingOf line s ≡ accepts rec n → (total (summedOf s) + receivedSum s) % 256 ≡ 0
+unfolding checks frameChecks fieldChecks
+accepted-sums-to-zero line s rec n h =
+    telegram-sums-to-zero s (leb-true 10 (length s) (passed (leb 10 (length s)) 0 (accepted-clean line s rec n h 1)))
+    (passed (isTwo s (length s - 3) (checkText (checksumOf (summedOf s)))) (length s - 3) (accepted-clean line s rec n h 6))

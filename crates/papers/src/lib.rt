@@ -1,0 +1,1 @@
+// Theorems that hold the definitions to the papers. No code.

@@ -1,0 +1,12 @@
+pub mod Tests
+pub mod Rows
+pub mod Bytes
+pub mod Values
+pub mod Faults
+pub mod Fields
+pub mod Records
+pub mod Frames
+pub mod Checks
+pub mod Written
+pub mod Read
+pub mod Trips

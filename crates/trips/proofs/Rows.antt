@@ -1,0 +1,99 @@
+-- What the table of forms says of a row that it finds: each row passes the same tests, computed once. Assumes nothing.
+use mathlib.Core.Path.{_≡_, refl}
+use mathlib.Core.Bool.{Bool, true, false, cond}
+use mathlib.Core.List.{List, [], _∷_}
+use Prim.Native.Nat.{ℕ, _≤_}
+use Prim.Native.Char.{code}
+use lib.Dec.{eqb, leb}
+use lib.ListN.{length, getD}
+use borrow.Author.Tests.{eqb-true, leb-true}
+use Rattle.laws.specs.Text.{codes}
+use Rattle.laws.specs.Truth.{oneOf, every}
+use Rattle.laws.proofs.Truths.{clash, both-left}
+use Rattle.forms.specs.Characters.{inSet}
+use Rattle.forms.specs.Forms.{Slot, forms, onLine, isRow, pickLooked, lookIn, formOf, slotsIn, countOf, slotsOf, widthIn, widthOf}
+use Rattle.forms.specs.Records.{typeOf, fieldsOf, recordOf}
+use Rattle.forms.specs.declared.table.Form.{Form}
+use Rattle.forms.specs.declared.table.Looked.{Looked}
+use Rattle.trips.proofs.Tests.{All, every-all}
+
+-- what was found is a row of the type that was looked for, and has what each row has
+abbrev Found : (Form → Type 0) → ℕ → Looked → Type 0
+Found P kind x = x .found ≡ true → P (x .form) × (x .form .kind ≡ kind)
+
+picked : (P : Form → Type 0) (kind : ℕ) (t : Bool) (x y : Looked) → (t ≡ true → Found P kind x) → Found P kind y → Found P kind (pickLooked t x y)
+picked P kind true x y f g = f refl
+picked P kind false x y f g = g
+
+looked : (P : Form → Type 0) (fs : List Form) (line kind : ℕ) → All P fs → Found P kind (lookIn fs line kind)
+unfolding lookIn
+looked P [] line kind a = λ h. clash h
+looked P (f ∷ fs) line kind a =
+    picked P kind (isRow f line kind) (record { found = true; form = f }) (lookIn fs line kind)
+    (λ e h. (a .0, eqb-true (f .kind) kind (both-left (eqb (f .kind) kind) (onLine f line) e)))
+    (looked P fs line kind (a .1))
+
+-- the form of a type that is on a line is a row of the table, of that type
+pub found-row : (P : Form → Type 0) (line kind : ℕ) → All P forms → formOf line kind .found ≡ true → P (formOf line kind .form) × (formOf line kind .form .kind ≡ kind)
+unfolding formOf
+found-row P line kind a h = looked P forms line kind a h
+
+-- what stands for a packet where there is none
+abbrev pub noSlot : Slot
+noSlot = record { letter = 0; len = 0 }
+
+-- the types that carry F D C M V P
+abbrev pub isRadio : ℕ → Bool
+isRadio kind = oneOf (codes "KO1") kind
+
+-- what each row passes, whatever the values of a record are
+abbrev tests : List ℕ → Form → List Bool
+tests vs f =
+    leb 2 (widthOf f) ∷
+    leb (widthOf f) 58 ∷
+    leb (length (slotsOf f)) 10 ∷
+    every (λ (p : Slot). inSet (p .letter)) (slotsOf f) ∷
+    eqb (length (slotsOf f)) (length (fieldsOf (recordOf (f .kind) vs))) ∷
+    eqb (typeOf (recordOf (f .kind) vs)) (f .kind) ∷
+    cond (isRadio (f .kind)) (eqb (getD (slotsOf f) 4 noSlot .letter) (code "V")) true ∷
+    cond (isRadio (f .kind)) (eqb (getD (slotsOf f) 4 noSlot .len) 3) true ∷
+    []
+
+abbrev passing : List ℕ → Form → Bool
+passing vs f = every (λ (t : Bool). t) (tests vs f)
+
+passes : (vs : List ℕ) → every (passing vs) forms ≡ true
+unfolding inSet forms slotsIn countOf slotsOf widthIn widthOf recordOf
+passes vs = refl
+
+-- what the tests say of the row of a type
+pub record Row (kind : ℕ) (f : Form) : Type 0 where
+  pub wide : 2 ≤ widthOf f
+  pub narrow : widthOf f ≤ 58
+  pub few : length (slotsOf f) ≤ 10
+  pub letters : every (λ (p : Slot). inSet (p .letter)) (slotsOf f) ≡ true
+  pub count : (vs : List ℕ) → length (slotsOf f) ≡ length (fieldsOf (recordOf kind vs))
+  pub type : (vs : List ℕ) → typeOf (recordOf kind vs) ≡ kind
+  pub watch : isRadio kind ≡ true → (getD (slotsOf f) 4 noSlot .letter ≡ code "V") × (getD (slotsOf f) 4 noSlot .len ≡ 3)
+
+told : (f : Form) → ((vs : List ℕ) → passing vs f ≡ true) → Row (f .kind) f
+told f h =
+    record {
+      wide = leb-true _ _ (a [] .0);
+      narrow = leb-true _ _ (a [] .1 .0);
+      few = leb-true _ _ (a [] .1 .1 .0);
+      letters = a [] .1 .1 .1 .0;
+      count = λ vs. eqb-true _ _ (a vs .1 .1 .1 .1 .0);
+      type = λ vs. eqb-true _ _ (a vs .1 .1 .1 .1 .1 .0);
+      watch = λ e. (eqb-true _ _ (rw e at (a [] .1 .1 .1 .1 .1 .1 .0)), eqb-true _ _ (rw e at (a [] .1 .1 .1 .1 .1 .1 .1 .0)));
+    }
+  where
+    a : (vs : List ℕ) → All (λ (t : Bool). t ≡ true) (tests vs f)
+    a vs = every-all (λ (t : Bool). t) (tests vs f) (h vs)
+
+-- what is true of the form of a type that is on a line
+pub row : (line kind : ℕ) → formOf line kind .found ≡ true → Row kind (formOf line kind .form)
+row line kind h = rw (r [] .1) at (told (formOf line kind .form) (λ vs. r vs .0))
+  where
+    r : (vs : List ℕ) → (passing vs (formOf line kind .form) ≡ true) × (formOf line kind .form .kind ≡ kind)
+    r vs = found-row (λ (f : Form). passing vs f ≡ true) line kind (every-all (passing vs) forms (passes vs)) h

@@ -1,0 +1,1 @@
+// Both round trips of reading and writing. Theorems only.

@@ -1,0 +1,20 @@
+use Rattle.laws.proofs.Tests.{tests}
+use Rattle.values.proofs.packets.is_digit.Statement.{statement}
+use Rattle.values.proofs.packets.is_digit.Tie as tie
+use Rattle.values.proofs.packets.is_digit.Reads as reads
+use Rattle.values.proofs.packets.is_digit.Lts as lts
+
+-- src/packets.rt:98:1
+returns : tie.Need-returns
+returns c = search tests
+
+-- src/packets.rt:98:1
+returns-2 : tie.Need-returns-2
+returns-2 c = search tests
+
+-- src/packets.rt:98:1
+returns-3 : tie.Need-returns-3
+returns-3 c = search tests
+
+pub is-digit-spec : {M : Type 1} → statement M
+is-digit-spec = tie.close (tie.spec returns returns-2 returns-3)
