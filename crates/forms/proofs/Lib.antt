@@ -1,4 +1,5 @@
 pub mod Parts
 pub mod Codes
 pub mod Rows
+pub mod Found
 pub mod Slots

@@ -61,13 +61,9 @@ onLine f line = cond (ltb line 1) false (cond (ltb 3 line) false (getD (f .lines
 abbrev pub isRow : Form → ℕ → ℕ → Bool
 isRow f line kind = both (eqb (f .kind) kind) (onLine f line)
 
-abbrev pub pickLooked : Bool → Looked → Looked → Looked
-pickLooked true a b = a
-pickLooked false a b = b
-
 unfoldable pub lookIn : List Form → ℕ → ℕ → Looked
 lookIn [] line kind = record { found = false; form = none }
-lookIn (f ∷ fs) line kind = pickLooked (isRow f line kind) (record { found = true; form = f }) (lookIn fs line kind)
+lookIn (f ∷ fs) line kind = cond (isRow f line kind) (record { found = true; form = f }) (lookIn fs line kind)
 
 -- the row of a type on a line
 unfoldable pub formOf : ℕ → ℕ → Looked

@@ -68,24 +68,20 @@ radioOf v =
       position = getD v 5 0;
     }
 
-abbrev pub pickRecord : Bool → Record → Record → Record
-pickRecord true a b = a
-pickRecord false a b = b
-
 -- the record of a type letter and values
 unfoldable pub recordOf : ℕ → List ℕ → Record
 recordOf kind v =
-    pickRecord (eqb kind (code "N")) (Rejected (getD v 0 0))
-    (pickRecord (eqb kind (code "r")) (Request (getD v 0 0))
-    (pickRecord (eqb kind (code "t")) (Idling (getD v 0 0))
-    (pickRecord (eqb kind (code "c")) (Test (getD v 0 0))
-    (pickRecord (eqb kind (code "5")) (Stop (getD v 0 0))
-    (pickRecord (eqb kind (code "o")) (RadioFault (getD v 0 0))
-    (pickRecord (eqb kind (code "G")) (Fault (getD v 0 0))
-    (pickRecord (eqb kind (code "F")) (Position (getD v 0 0))
-    (pickRecord (eqb kind (code "n")) (Train (getD v 0 0))
-    (pickRecord (eqb kind (code "B")) (TrainData (getD v 0 0) (getD v 1 0) (getD v 2 0) (getD v 3 0))
-    (pickRecord (eqb kind (code "K")) (RadioData (radioOf v))
-    (pickRecord (eqb kind (code "O")) (RadioUpdate (radioOf v) (getD v 6 0))
-    (pickRecord (eqb kind (code "1")) (Transponder (radioOf v) (getD v 6 0) (getD v 7 0) (getD v 8 0) (getD v 9 0))
+    cond (eqb kind (code "N")) (Rejected (getD v 0 0))
+    (cond (eqb kind (code "r")) (Request (getD v 0 0))
+    (cond (eqb kind (code "t")) (Idling (getD v 0 0))
+    (cond (eqb kind (code "c")) (Test (getD v 0 0))
+    (cond (eqb kind (code "5")) (Stop (getD v 0 0))
+    (cond (eqb kind (code "o")) (RadioFault (getD v 0 0))
+    (cond (eqb kind (code "G")) (Fault (getD v 0 0))
+    (cond (eqb kind (code "F")) (Position (getD v 0 0))
+    (cond (eqb kind (code "n")) (Train (getD v 0 0))
+    (cond (eqb kind (code "B")) (TrainData (getD v 0 0) (getD v 1 0) (getD v 2 0) (getD v 3 0))
+    (cond (eqb kind (code "K")) (RadioData (radioOf v))
+    (cond (eqb kind (code "O")) (RadioUpdate (radioOf v) (getD v 6 0))
+    (cond (eqb kind (code "1")) (Transponder (radioOf v) (getD v 6 0) (getD v 7 0) (getD v 8 0) (getD v 9 0))
     (Approved (getD v 0 0))))))))))))))

@@ -1,7 +1,7 @@
 -- Numbers as characters: decimal digits, or whole characters as digits of base 256. Assumes nothing.
 use Prim.Native.Nat.{ℕ, zero, suc, _+_, _-_, _*_, _/_, _%_}
 use mathlib.Core.List.{List, [], _∷_}
-use mathlib.Core.Bool.{Bool, true, false, cond}
+use mathlib.Core.Bool.{Bool, cond}
 
 -- the base of a value's characters, and the character of its digit 0
 abbrev pub base : Bool → ℕ

@@ -1,4 +1,4 @@
--- The words in which the definitions test bytes. Assumes nothing.
+-- The words in which the definitions test bytes, and in which the theorems speak of each element of a list. Assumes nothing.
 use Prim.Native.Nat.{ℕ, zero, suc, _+_}
 use mathlib.Core.Bool.{Bool, true, false, cond}
 use mathlib.Core.List.{List, [], _∷_}
@@ -23,6 +23,11 @@ oneOf (x ∷ xs) b = either (eqb b x) (oneOf xs b)
 abbrev pub every : {A : Type 0} → (A → Bool) → List A → Bool
 every f [] = true
 every f (x ∷ xs) = both (f x) (every f xs)
+
+-- the fact holds of each element
+abbrev pub All : {A : Type 0} → (A → Type 0) → List A → Type 0
+All P [] = Unit {0}
+All P (x ∷ xs) = P x × All P xs
 
 -- the first n of a list, with 0 in the places behind it
 abbrev pub pad : ℕ → List ℕ → List ℕ

@@ -1,6 +1,6 @@
 -- The paper's numbers and places tell the answers apart (01 'Numbered answers', 'What the promises say'). Assumes nothing.
 use mathlib.Core.Path.{_≡_, refl, sym, _∙_}
-use mathlib.Core.Bool.{Bool, true, false}
+use mathlib.Core.Bool.{cond}
 use Prim.Native.Nat.{ℕ}
 use lib.Dec.{eqb}
 use Rattle.forms.specs.Refusals.{numberOf, placeOf}
@@ -11,29 +11,25 @@ use Rattle.telegram.specs.declared.answers.Reading as r
 use Rattle.telegram.specs.declared.answers.Writing as w
 use Rattle.telegram.specs.declared.answers.Check as c
 
-abbrev pub pickRefusal : Bool → Refusal → Refusal → Refusal
-pickRefusal true a b = a
-pickRefusal false a b = b
-
 -- the refusal of a number and place
 abbrev pub refusalOf : ℕ → ℕ → Refusal
 refusalOf number place =
-    pickRefusal (eqb number 1) Short
-    (pickRefusal (eqb number 2) Long
-    (pickRefusal (eqb number 3) NoStart
-    (pickRefusal (eqb number 4) Count
-    (pickRefusal (eqb number 5) (NoEnd place)
-    (pickRefusal (eqb number 6) (Checksum place)
-    (pickRefusal (eqb number 7) Number
-    (pickRefusal (eqb number 8) Kind
-    (pickRefusal (eqb number 9) (Character place)
-    (pickRefusal (eqb number 10) (Form place)
-    (pickRefusal (eqb number 11) (Value place)
-    (pickRefusal (eqb number 12) NotSent
-    (pickRefusal (eqb number 13) Range
-    (pickRefusal (eqb number 14) NoRoom
-    (pickRefusal (eqb number 15) State
-    (pickRefusal (eqb number 16) Busy Full)))))))))))))))
+    cond (eqb number 1) Short
+    (cond (eqb number 2) Long
+    (cond (eqb number 3) NoStart
+    (cond (eqb number 4) Count
+    (cond (eqb number 5) (NoEnd place)
+    (cond (eqb number 6) (Checksum place)
+    (cond (eqb number 7) Number
+    (cond (eqb number 8) Kind
+    (cond (eqb number 9) (Character place)
+    (cond (eqb number 10) (Form place)
+    (cond (eqb number 11) (Value place)
+    (cond (eqb number 12) NotSent
+    (cond (eqb number 13) Range
+    (cond (eqb number 14) NoRoom
+    (cond (eqb number 15) State
+    (cond (eqb number 16) Busy Full)))))))))))))))
 
 -- each refusal comes back from its number and place
 pub refusal-back : (x : Refusal) → refusalOf (numberOf x) (placeOf x) ≡ x

@@ -4,6 +4,7 @@ use mathlib.Core.List.{List, [], _∷_, _++_}
 use Prim.Native.Nat.{ℕ}
 use Prim.Native.Char.{code}
 use Prim.Native.String.{String}
+use Rattle.laws.specs.Truth.{All}
 use Rattle.laws.specs.Text.{codes}
 use Rattle.laws.specs.Numerals.{numeralOn, numberOn}
 use Rattle.forms.specs.Characters.{inSet}
@@ -54,10 +55,6 @@ cases =
     -- j (001 section 4.4)
     sums (0x01 ∷ 0x10 ∷ 0xA0 ∷ 0x00 ∷ 0xC9 ∷ []) 0x86 ∷
     []
-
-abbrev pub All : {A : Type 0} → (A → Type 0) → List A → Type 0
-All P [] = Unit {0}
-All P (x ∷ xs) = P x × All P xs
 
 pub every-case : All Holds cases
 unfolding numeralOn numberOn inSet total checksumOf checkText forms onLine lookIn formOf dataIn dataType slotsIn countOf slotsOf widthIn widthOf packetOf leadOf isDecimal permits valueOf permittedFrom permitted recordOf countText summedOf fieldOf frameChecks outside wrongLetter badValue valuesIn misshapen fieldChecks recordIn checks readingOf

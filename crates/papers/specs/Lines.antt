@@ -6,11 +6,10 @@ use Prim.Native.Nat.{ℕ}
 use Prim.Native.String.{String}
 use lib.Dec.{eqb}
 use lib.ListN.{getD}
-use Rattle.laws.specs.Truth.{both, oneOf, every}
+use Rattle.laws.specs.Truth.{both, oneOf, every, All}
 use Rattle.laws.specs.Text.{codes}
 use Rattle.forms.specs.Forms.{forms, onLine, lookIn, formOf, byMaster, bySlave, dataIn, dataType}
 use Rattle.forms.specs.declared.table.Form.{Form}
-use Rattle.papers.specs.Cases.{All}
 
 -- a line: what the master sends and what the slave sends
 pub record Line : Type 0 where

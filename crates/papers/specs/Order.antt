@@ -1,12 +1,12 @@
 -- A refusal of reading is the first check that finds a fault, and each of 1 to 11 occurs (01 'Numbered answers'). Assumes nothing.
-use mathlib.Core.Path.{_≡_, refl}
-use mathlib.Core.Bool.{Bool, true, false}
+use mathlib.Core.Path.{_≡_, refl, sym}
+use mathlib.Core.Bool.{true, false}
 use mathlib.Core.List.{List, [], _∷_, _++_, map}
 use Prim.Native.Nat.{ℕ, zero, suc, _+_, _-_, _≤_, _<_}
 use Prim.Native.Char.{code}
 use native.Mathlib.Omega.{arith}
 use lib.ListN.{length, getD, replicate}
-use Rattle.laws.specs.Truth.{oneOf, every}
+use Rattle.laws.specs.Truth.{oneOf, every, All}
 use Rattle.laws.specs.Text.{codes}
 use Rattle.laws.specs.Numerals.{numeralOn}
 use Rattle.laws.proofs.Truths.{clash}
@@ -18,11 +18,14 @@ use Rattle.values.specs.Values.{permittedFrom, permitted}
 use Rattle.forms.specs.declared.records.Record.{Record}
 use Rattle.telegram.specs.declared.answers.Spot.{Spot}
 use Rattle.telegram.specs.declared.answers.Spot.the-variants.{Nowhere, At}
-use Rattle.telegram.specs.Answers.{Answer, accepts, refuses, Fault, good, fault, firstFault, unless}
+use Rattle.telegram.specs.Answers.{accepts, refuses, Fault, good, fault, firstFault, unless}
 use Rattle.telegram.specs.Frame.{lf, cr, countText, summedOf, fieldOf, frameChecks}
 use Rattle.telegram.specs.Field.{outside, wrongLetter, badValue, misshapen, fieldChecks}
-use Rattle.telegram.specs.Reading.{checks, pickAnswer, readingOf}
-use Rattle.papers.specs.Cases.{All, framed}
+use Rattle.telegram.specs.Reading.{checks, readingOf}
+use Rattle.telegram.proofs.Contents as contents
+use Rattle.trips.proofs.Faults.{faultless-at}
+use Rattle.trips.proofs.Checks.{accepted-only}
+use Rattle.papers.specs.Cases.{framed}
 
 -- bytes on a line, the number of their refusal and its place
 pub record Refused : Type 0 where
@@ -115,23 +118,10 @@ first-in (At p ∷ spots) j k place h =
     let e : j ≡ k = cc in
     record { index = 0; counted = omega arith; within = omega arith; finds = cc; none-before = λ i l. let z : ⊥ = omega arith in absurd z }
 
--- a list without a fault
-none-in : (spots : List Spot) (j i : ℕ) → firstFault j spots ≡ good → getD spots i Nowhere ≡ Nowhere
-none-in [] j i h = refl
-none-in (Nowhere ∷ spots) j zero h = refl
-none-in (Nowhere ∷ spots) j (suc i) h = none-in spots (j + 1) i h
-none-in (At p ∷ spots) j i h = clash (cc)
-
 -- an answer that refuses has a fault
 refused-by : (f : Fault) (rec : Record) (n k place : ℕ) → unless f (accepts rec n) ≡ refuses k place → f ≡ fault k place
 refused-by good rec n k place h = clash (cc)
 refused-by (fault a b) rec n k place h = cc
-
--- one that accepts has none
-accepted-by : (t : Bool) (f : Fault) (a : Answer) (rec : Record) (n : ℕ) → pickAnswer t (unless f a) (refuses 15 0) ≡ accepts rec n → f ≡ good
-accepted-by true good a rec n h = refl
-accepted-by true (fault x y) a rec n h = clash (cc)
-accepted-by false f a rec n h = clash (cc)
 
 -- reading checks 1 to 11: there are eleven
 pub eleven : (line : ℕ) (s : List ℕ) → length (checks line s) ≡ 11
@@ -154,10 +144,8 @@ refused-first line s k place l h =
 
 -- what is accepted passes every check
 pub accepted-clean : (line : ℕ) (s : List ℕ) (rec : Record) (n : ℕ) → readingOf line s ≡ accepts rec n → (k : ℕ) → checkAt line s k ≡ Nowhere
-unfolding readingOf
-accepted-clean line s rec n h k = none-in (checks line s) 1 (k - 1) (accepted-by (isLine line) (firstFault 1 (checks line s)) _ rec n h)
+accepted-clean line s rec n h k = faultless-at (checks line s) (k - 1) (accepted-only line s rec n h .faultless)
 
 -- 15 comes before all where the line is not 1, 2 or 3, whatever the bytes are
 pub no-line : (line : ℕ) (s : List ℕ) → isLine line ≡ false → readingOf line s ≡ refuses 15 0
-unfolding readingOf
-no-line line s l = rw l
+no-line line s l = sym (contents.no-line line s l)

@@ -5,18 +5,16 @@ use mathlib.Core.List.{List}
 use Prim.Native.Nat.{ℕ, _+_, _-_, _*_, _/_, _%_, _≤_, _<_}
 use Prim.Native.Char.{code}
 use native.Mathlib.Omega.{arith}
-use lib.Dec.{ltb, leb, eqb}
+use lib.Dec.{ltb}
 use lib.ListN.{length, getD}
-use borrow.Author.Tests.{eqb-true, ltb-true, ltb-false, leb-true, lt-ltb, le-ltb}
-use Rattle.laws.proofs.Truths.{both-left, both-right}
+use borrow.Author.Tests.{ltb-true, ltb-false, lt-ltb, le-ltb}
 use Rattle.forms.specs.Checksum.{total, checksumOf, hexOf, checkText}
 use Rattle.forms.specs.declared.records.Record.{Record}
-use Rattle.telegram.specs.declared.answers.Spot.the-variants.{Nowhere}
 use Rattle.telegram.specs.Answers.{accepts}
-use Rattle.telegram.specs.Frame.{summedOf, isTwo, needs, frameChecks}
-use Rattle.telegram.specs.Field.{fieldChecks}
-use Rattle.telegram.specs.Reading.{checks, readingOf}
-use Rattle.papers.specs.Order.{accepted-clean}
+use Rattle.telegram.specs.Frame.{summedOf, isTwo}
+use Rattle.telegram.specs.Reading.{readingOf}
+use Rattle.trips.proofs.Frames.{two-are}
+use Rattle.trips.proofs.Checks.{accepted-only}
 
 -- the sum of any bytes with their checksum is 0 modulo 256
 pub sums-to-zero : (s : List ℕ) → (total s + checksumOf s) % 256 ≡ 0
@@ -56,18 +54,9 @@ unfolding checkText
 telegram-sums-to-zero s l h =
     let c : ℕ = checksumOf (summedOf s) in
     let place : length s - 2 ≡ length s - 3 + 1 = omega arith in
-    let high : getD s (length s - 3) 0 ≡ hexOf (c / 16) = eqb-true _ _ (both-left _ (eqb (getD s (length s - 3 + 1) 0) (hexOf c)) h) in
-    let low : getD s (length s - 2) 0 ≡ hexOf c = rw place (eqb-true _ _ (both-right (eqb (getD s (length s - 3) 0) (hexOf (c / 16))) _ h)) in
-    rw (two-back c (getD s (length s - 3) 0) (getD s (length s - 2) 0) (checksum-low (summedOf s)) high low) (sums-to-zero (summedOf s))
-
--- a check that finds nothing has passed its test
-passed : (t : Bool) (place : ℕ) → needs t place ≡ Nowhere → t ≡ true
-passed true place h = refl
-passed false place h = cc
+    let t = two-are s (length s - 3) (checkText c) h in
+    rw (two-back c (getD s (length s - 3) 0) (getD s (length s - 2) 0) (checksum-low (summedOf s)) (t .0) (rw place (t .1))) (sums-to-zero (summedOf s))
 
 -- so it is for every telegram that is accepted
 pub accepted-sums-to-zero : (line : ℕ) (s : List ℕ) (rec : Record) (n : ℕ) → readingOf line s ≡ accepts rec n → (total (summedOf s) + receivedSum s) % 256 ≡ 0
-unfolding checks frameChecks fieldChecks
-accepted-sums-to-zero line s rec n h =
-    telegram-sums-to-zero s (leb-true 10 (length s) (passed (leb 10 (length s)) 0 (accepted-clean line s rec n h 1)))
-    (passed (isTwo s (length s - 3) (checkText (checksumOf (summedOf s)))) (length s - 3) (accepted-clean line s rec n h 6))
+accepted-sums-to-zero line s rec n h = let f = accepted-only line s rec n h .framed in telegram-sums-to-zero s (f .long) (f .sum)

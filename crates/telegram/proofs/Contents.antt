@@ -1,10 +1,10 @@
 -- Checks 8 to 11 and the answer, one after the other. Assumes nothing.
-use mathlib.Core.Path.{_≡_, refl, sym, ap, _∙_}
-use mathlib.Core.Bool.{Bool, true, false, cond}
+use mathlib.Core.Path.{_≡_, refl, ap, _∙_}
+use mathlib.Core.Bool.{true, false}
 use mathlib.Core.List.{List, [], _∷_, _++_}
 use Prim.Native.Nat.{ℕ, _+_, _-_}
 use lib.ListN.{length, getD}
-use native.Mathlib.Nat.{add-zero, add-suc, suc-add}
+use native.Mathlib.Nat.{add-zero}
 use native.Mathlib.Omega.{arith}
 use Rattle.forms.specs.Forms.{formOf, slotsOf, isLine}
 use Rattle.forms.specs.Records.{recordOf}
@@ -14,7 +14,7 @@ use Rattle.telegram.specs.declared.answers.Spot.the-variants.{Nowhere, A
 use Rattle.telegram.specs.Answers.{Answer, accepts, refuses, Fault, good, fault, firstFault, unless}
 use Rattle.telegram.specs.Frame.{needs, fieldOf, frameChecks}
 use Rattle.telegram.specs.Field.{outside, misshapen, badValue, valuesIn, fieldChecks}
-use Rattle.telegram.specs.Reading.{inForm, recordIn, contentsOf, checks, readingOf, pickAnswer}
+use Rattle.telegram.specs.Reading.{inForm, recordIn, contentsOf, checks, readingOf}
 
 -- the answer for a row that was looked up, and the place of a byte outside the set
 unfoldable answer : ℕ → ℕ → Looked → Spot → List ℕ → ℕ → Answer

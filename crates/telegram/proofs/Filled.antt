@@ -5,7 +5,7 @@ use Prim.Native.Nat.{ℕ, zero, suc, _+_, _-_, _≤_, _<_}
 use native.Mathlib.Omega.{arith}
 use native.Mathlib.Numerals.{add-one}
 use native.Mathlib.Nat.{le-of-suc-le-suc}
-use lib.ListN.{length, take, drop, set, take-append-drop}
+use lib.ListN.{length, take, drop, set, length-take, take-append-drop}
 use lib.Seq.{drop-drop, drop-set-lt, take-suc-set}
 use Rattle.laws.specs.Truth.{pad}
 use Rattle.telegram.specs.Field.{valuesIn}
@@ -37,6 +37,4 @@ filled-end vs j d full h e f =
 
 -- a part has at most as many bytes as were asked for
 pub length-take-most : (n : ℕ) (l : List ℕ) → length (take n l) ≤ n
-length-take-most zero l = omega arith
-length-take-most (suc n) [] = omega arith
-length-take-most (suc n) (x ∷ l) = let h = length-take-most n l in omega arith
+length-take-most n l = omega (arith, length-take n l)

@@ -1,6 +1,6 @@
 -- Checks 1 to 7, one after the other. Assumes nothing.
-use mathlib.Core.Path.{_≡_, refl, sym, ap, _∙_}
-use mathlib.Core.Bool.{Bool, true, false, cond}
+use mathlib.Core.Path.{_≡_}
+use mathlib.Core.Bool.{true, false}
 use mathlib.Core.List.{List, [], _∷_}
 use Prim.Native.Nat.{ℕ, _+_, _-_, _/_, _%_, _≤_, _<_}
 use lib.ListN.{length, drop, getD}
@@ -9,8 +9,8 @@ use Rattle.laws.specs.Truth.{oneOf}
 use Rattle.laws.specs.Text.{codes}
 use Rattle.laws.specs.Numerals.{numeralOn}
 use Rattle.forms.specs.Checksum.{hexOf, checkText, checksumOf}
-use Rattle.telegram.specs.Answers.{Fault, good, fault, firstFault}
-use Rattle.telegram.specs.Frame.{isTwo, countText, frameChecks, summedOf, cr}
+use Rattle.telegram.specs.Answers.{good, fault, firstFault}
+use Rattle.telegram.specs.Frame.{isTwo, countText, frameChecks, summedOf}
 
 -- the two characters of the byte count
 pub count-two : (n high low : ℕ) → high ≡ 48 + (n - 2) / 10 % 10 → low ≡ 48 + (n - 2) % 10 → high ∷ low ∷ [] ≡ countText n

@@ -1,17 +1,17 @@
 -- A telegram written stretch by stretch. Assumes nothing.
 use mathlib.Core.Path.{_≡_, refl, sym, ap, _∙_}
 use mathlib.Core.List.{List, [], _∷_, _++_, append-assoc}
-use Prim.Native.Nat.{ℕ, zero, suc, _+_, _-_, _≤_, _<_}
+use Prim.Native.Nat.{ℕ, suc, _+_, _-_, _≤_, _<_}
 use native.Mathlib.Omega.{arith}
-use native.Mathlib.Numerals.{one-add}
 use lib.ListN.{length, take, drop, getD, set, length-append}
-use lib.Seq.{drop-drop, getD-drop, take-at, length-take-le}
+use lib.Seq.{drop-drop, take-at, length-take-le}
 use borrow.Rule.Slice.PartMut.{putMid, midOf, mid-len}
 use Rattle.laws.specs.Numerals.{numeralOn}
 use Rattle.laws.proofs.Stretch.{next}
-use Rattle.forms.specs.Checksum.{checksumOf, checkText}
-use Rattle.forms.specs.Forms.{slotsIn, widthIn}
+use Rattle.forms.specs.Checksum.{checksumOf}
+use Rattle.forms.specs.Forms.{slotsIn}
 use Rattle.values.specs.Values.{textOf, packetText}
+use Rattle.forms.proofs.Parts.{part-first}
 use Rattle.forms.proofs.Slots.{slots-step}
 use Rattle.telegram.specs.Frame.{countText, bodyOf, frameOf, headText, tailText}
 use Rattle.telegram.specs.Field.{dataOf}
@@ -35,14 +35,10 @@ three (x₁ ∷ x₂ ∷ x₃ ∷ x₄ ∷ l) a b c h = let z : ⊥ = omega arit
 
 -- the j-th of n packets
 module _ (ls ws vs : List ℕ) (n j : ℕ) (more : j < n) where
-  pub width-here : widthIn (slotsIn (n - j) (drop j ls) (drop j ws)) ≡ 1 + getD ws j 0 + widthIn (slotsIn (n - (j + 1)) (drop (j + 1) ls) (drop (j + 1) ws))
-  unfolding widthIn
-  width-here = rw (slots-step ls ws n j more)
-
   data-here : dataOf (slotsIn (n - j) (drop j ls) (drop j ws)) (drop j vs)
       ≡ getD ls j 0 ∷ (textOf (getD ls j 0) (getD ws j 0) (getD vs j 0) ++ dataOf (slotsIn (n - (j + 1)) (drop (j + 1) ls) (drop (j + 1) ws)) (drop (j + 1) vs))
   unfolding dataOf
-  data-here = let z : j + 0 ≡ j = omega arith in rw (slots-step ls ws n j more, getD-drop j vs 0 0, z, drop-drop 1 j vs)
+  data-here = rw (slots-step ls ws n j more, part-first vs j, drop-drop 1 j vs)
 
   -- it is written behind the packets before it
   pub packet-here : (o ys full : List ℕ) (at w : ℕ) → w ≡ getD ws j 0 → at + (1 + w) ≤ length o

@@ -1,20 +1,21 @@
 -- One packet of the walk along a data field. Assumes nothing.
-use mathlib.Core.Path.{_≡_, refl, sym, ap, _∙_}
-use mathlib.Core.Bool.{Bool, true, false, cond}
-use mathlib.Core.List.{List, [], _∷_, _++_}
-use Prim.Native.Nat.{ℕ, zero, suc, _+_, _-_, _≤_, _<_}
+use mathlib.Core.Path.{_≡_}
+use mathlib.Core.Bool.{true, false}
+use mathlib.Core.List.{List, _∷_}
+use Prim.Native.Nat.{ℕ, suc, _+_, _-_, _<_}
 use native.Mathlib.Omega.{arith}
 use native.Mathlib.Numerals.{add-one}
 use lib.ListN.{length, take, drop, getD}
-use lib.Seq.{drop-cons, drop-drop, getD-drop}
+use lib.Seq.{drop-cons, drop-drop}
 use borrow.Author.Tests.{eq-eqb, ne-eqb}
 use Rattle.laws.specs.Truth.{every}
 use Rattle.laws.proofs.Truths.{both-left, both-right}
 use Rattle.forms.specs.Characters.{inSet}
 use Rattle.forms.specs.Forms.{slotsIn}
 use Rattle.values.specs.Values.{permitted, valueOf}
+use Rattle.forms.proofs.Parts.{part-first}
 use Rattle.forms.proofs.Slots.{slots-step}
-use Rattle.telegram.specs.declared.answers.Spot.the-variants.{Nowhere, At}
+use Rattle.telegram.specs.declared.answers.Spot.the-variants.{At}
 use Rattle.telegram.specs.Field.{outside, wrongLetter, badValue, valuesIn, narrow, narrowSlot}
 
 -- one byte of the field
@@ -29,9 +30,6 @@ module _ (d : List ℕ) (i : ℕ) (h : i < length d) where
 
 -- the j-th of n packets, which stands at a place of the field, with a value of w bytes
 module _ (ls ws d : List ℕ) (n j at : ℕ) (more : j < n) where
-  here : getD (drop at d) 0 0 ≡ getD d at 0
-  here = let z : at + 0 ≡ at = omega arith in getD-drop at d 0 0 ∙ ap (λ (k : ℕ). getD d k 0) z
-
   on : (w : ℕ) → 5 + at + (1 + w) ≡ 5 + (at + (1 + w))
   on w = omega arith
 
@@ -39,11 +37,11 @@ module _ (ls ws d : List ℕ) (n j at : ℕ) (more : j < n) where
       → wrongLetter (5 + at) (slotsIn (n - j) (drop j ls) (drop j ws)) (drop at d)
       ≡ wrongLetter (5 + (at + (1 + w))) (slotsIn (n - (j + 1)) (drop (j + 1) ls) (drop (j + 1) ws)) (drop (at + (1 + w)) d)
   unfolding wrongLetter
-  letter-right w e f = rw (e, slots-step ls ws n j more, here, eq-eqb (getD d at 0) (getD ls j 0) f, on (getD ws j 0), drop-drop (1 + getD ws j 0) at d)
+  letter-right w e f = rw (e, slots-step ls ws n j more, part-first d at, eq-eqb (getD d at 0) (getD ls j 0) f, on (getD ws j 0), drop-drop (1 + getD ws j 0) at d)
 
   pub letter-wrong : (getD d at 0 ≡ getD ls j 0 → ⊥) → wrongLetter (5 + at) (slotsIn (n - j) (drop j ls) (drop j ws)) (drop at d) ≡ At (5 + at)
   unfolding wrongLetter
-  letter-wrong f = rw (slots-step ls ws n j more, here, ne-eqb (getD d at 0) (getD ls j 0) f)
+  letter-wrong f = rw (slots-step ls ws n j more, part-first d at, ne-eqb (getD d at 0) (getD ls j 0) f)
 
   pub value-right : (line kind w : ℕ) → w ≡ getD ws j 0 → permitted line kind (getD ls j 0) (take w (drop (at + 1) d)) ≡ true
       → badValue line kind (5 + at) (slotsIn (n - j) (drop j ls) (drop j ws)) (drop at d)

@@ -1,5 +1,5 @@
 -- The refusals of writing, one after the other, and what is written. Assumes nothing.
-use mathlib.Core.Path.{_≡_, refl, sym, ap, _∙_}
+use mathlib.Core.Path.{_≡_, refl, ap, _∙_}
 use mathlib.Core.Bool.{Bool, true, false, cond}
 use mathlib.Core.List.{List, _++_}
 use Prim.Native.Nat.{ℕ, _+_, _≤_, _<_}
@@ -13,10 +13,10 @@ use Rattle.forms.specs.Records.{typeOf, valuesOf}
 use Rattle.values.specs.Values.{permitsRecord, lengthOf}
 use Rattle.forms.specs.declared.records.Record.{Record}
 use Rattle.forms.specs.declared.table.Looked.{Looked}
-use Rattle.telegram.specs.Answers.{Outcome, wrote, refusesTo}
+use Rattle.telegram.specs.Answers.{wrote, refusesTo}
 use Rattle.telegram.specs.Frame.{frameOf}
 use Rattle.telegram.specs.Field.{dataOf}
-use Rattle.telegram.specs.Writing.{Write, pickWrite, telegramOf, writingOf}
+use Rattle.telegram.specs.Writing.{Write, telegramOf, writingOf}
 
 small : {n : ℕ} → n ≤ 1 → n < 2
 small h = omega arith
@@ -24,10 +24,10 @@ small h = omega arith
 -- the outcome for a row that was looked up
 unfoldable result : ℕ → ℕ → Looked → List ℕ → Bool → Bool → ℕ → List ℕ → Write
 result line kind l vs lined permits number out =
-    pickWrite lined
-    (pickWrite (l .found)
-    (pickWrite (both permits (ltb number 2))
-    (pickWrite (leb (cond (l .found) (8 + widthOf (l .form)) 0) (length out))
+    cond lined
+    (cond (l .found)
+    (cond (both permits (ltb number 2))
+    (cond (leb (cond (l .found) (8 + widthOf (l .form)) 0) (length out))
     (wrote (cond (l .found) (8 + widthOf (l .form)) 0), frameOf kind number (dataOf (slotsOf (l .form)) vs) ++ drop (cond (l .found) (8 + widthOf (l .form)) 0) out)
     (refusesTo 14 0, out))
     (refusesTo 13 0, out))

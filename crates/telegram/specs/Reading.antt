@@ -13,10 +13,6 @@ use Rattle.telegram.specs.Answers.{Answer, accepts, refuses, firstFault,
 use Rattle.telegram.specs.Frame.{fieldOf, frameChecks}
 use Rattle.telegram.specs.Field.{valuesIn, misshapen, badValue, fieldChecks}
 
-abbrev pub pickAnswer : Bool → Answer → Answer → Answer
-pickAnswer true a b = a
-pickAnswer false a b = b
-
 -- the record that a telegram of a known type carries
 unfoldable pub recordIn : ℕ → List ℕ → Record
 recordIn line s = recordOf (getD s 3 0) (valuesIn 10 (slotsOf (formOf line (getD s 3 0) .form)) (fieldOf s))
@@ -37,6 +33,6 @@ checks line s = frameChecks s ++ fieldChecks line s
 -- 15 comes before all; a reading is a record with its number or the first refusal with its place
 unfoldable pub readingOf : ℕ → List ℕ → Answer
 readingOf line s =
-    pickAnswer (isLine line)
+    cond (isLine line)
     (unless (firstFault 1 (checks line s)) (accepts (recordIn line s) (getD s 4 0 - code "0")))
     (refuses 15 0)

@@ -1,6 +1,6 @@
 -- What writing a record on a line does (01 'Numbered answers'). Assumes nothing.
 use Prim.Native.Nat.{ℕ}
-use mathlib.Core.Bool.{Bool, true, false}
+use mathlib.Core.Bool.{Bool, true, false, cond}
 use mathlib.Core.List.{List, _++_}
 use lib.Dec.{ltb, leb}
 use lib.ListN.{length, drop}
@@ -21,17 +21,13 @@ telegramOf line rec number = frameOf (typeOf rec) number (dataOf (slotsOf (formO
 abbrev pub Write : Type 0
 Write = Outcome × List ℕ
 
-abbrev pub pickWrite : Bool → Write → Write → Write
-pickWrite true a b = a
-pickWrite false a b = b
-
 -- 15, then 12, 13, 14; a refused call leaves the output; what lies behind the telegram keeps its old bytes
 unfoldable pub writingOf : ℕ → Record → ℕ → List ℕ → Write
 writingOf line rec number out =
-    pickWrite (isLine line)
-    (pickWrite (formOf line (typeOf rec) .found)
-    (pickWrite (both (permitsRecord line rec) (ltb number 2))
-    (pickWrite (leb (lengthOf line rec) (length out))
+    cond (isLine line)
+    (cond (formOf line (typeOf rec) .found)
+    (cond (both (permitsRecord line rec) (ltb number 2))
+    (cond (leb (lengthOf line rec) (length out))
     (wrote (lengthOf line rec), telegramOf line rec number ++ drop (lengthOf line rec) out)
     (refusesTo 14 0, out))
     (refusesTo 13 0, out))

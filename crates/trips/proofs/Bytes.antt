@@ -4,37 +4,23 @@ use mathlib.Core.Bool.{Bool, true, false, cond, not}
 use Prim.Native.Nat.{ℕ, _+_, _≤_, _<_}
 use Prim.Native.Char.{code}
 use native.Mathlib.Omega.{arith}
-use lib.Dec.{ltb, eqb}
-use borrow.Author.Tests.{ltb-true, eqb-true}
+use lib.Dec.{eqb}
+use borrow.Author.Tests.{eqb-true}
 use Rattle.laws.specs.Text.{codes}
 use Rattle.laws.specs.Numerals.{base, nought}
 use Rattle.laws.specs.Truth.{both, either}
 use Rattle.laws.proofs.Truths.{clash, both-left}
+use Rattle.laws.proofs.Passes.{on-cond, on-either, oneOf-passes, from-bounds, from-passes}
 use Rattle.forms.specs.Characters.{inSet}
 use Rattle.forms.specs.Forms.{isLine, forms, onLine, dataIn, dataType}
+use Rattle.forms.proofs.Codes.{low}
 use Rattle.values.specs.Packets.{packetOf, leadBy, decimalBy, leadOf, isDecimal, digit, inForm, permitsBy, permits}
 use Rattle.values.specs.declared.packets.Packet.{Packet}
 use Rattle.values.specs.declared.packets.Packet.the-variants.{Digits, Channel, Position, Direction, Lamp, Stop, Cause, Mode, Watch, Effect, Sign, Country, Request, Approval, Unknown}
-use Rattle.trips.proofs.Tests.{on-test, on-either, on-cond, on-choice, oneOf-passes, from-bounds, from-passes}
 
 -- a digit is a character of the set
 digit-set : (b : ℕ) → digit b ≡ true → inSet b ≡ true
 digit-set b h = from-passes inSet (code "0") (code "9") b (unfold inSet in refl) h
-
--- below 256
-abbrev small : ℕ → Bool
-small b = ltb b 256
-
--- a character of the set is a byte
-set-small : (b : ℕ) → inSet b ≡ true → b < 256
-unfolding inSet
-set-small b h =
-    ltb-true b 256
-    (on-either _ _ h (oneOf-passes small (codes "%()-:+ ") b refl)
-    (λ h. on-either _ _ h (from-passes small (code "0") (code "9") b refl)
-    (λ h. on-either _ _ h (from-passes small (code "A") (code "Z") b refl)
-    (λ h. on-either _ _ h (from-passes small (code "a") (code "z") b refl)
-    (λ h. on-either _ _ h (from-passes small 0x5B 0x5D b refl) (from-passes small 0x7B 0x7D b refl))))))
 
 -- the slave's data type on a line is a character of the set
 data-set : (line : ℕ) → isLine line ≡ true → inSet (dataType line) ≡ true
@@ -44,7 +30,7 @@ data-set line h = from-passes (λ (l : ℕ). inSet (dataType l)) 1 3 line (unfol
 form-set : (kind b : ℕ) → inForm kind b ≡ true → inSet b ≡ true
 unfolding inSet
 form-set kind b h =
-    on-test (eqb b (code "F")) (λ e. rw (eqb-true b (code "F") e) refl) (λ e. from-passes inSet (code "A") (code "D") b refl (rw e at h))
+    on-cond (eqb b (code "F")) _ _ h (λ e _. rw (eqb-true b (code "F") e) refl) (λ _. from-passes inSet (code "A") (code "D") b refl)
 
 -- the lead in its place, elsewhere a digit or a character of the set
 abbrev shape : Packet → ℕ → ℕ → Bool
@@ -55,22 +41,22 @@ shaped : (q : Packet) (line kind last at b : ℕ) → isLine line ≡ true → p
 unfolding inSet
 shaped Digits line kind last at b l h = h
 shaped Channel line kind last at b l h = h
-shaped Position line kind last at b l h = on-choice (eqb at 0) _ _ _ h (from-passes digit (code "0") (code "7") b refl) (λ k. k)
+shaped Position line kind last at b l h = on-cond (eqb at 0) _ _ h (λ _. from-passes digit (code "0") (code "7") b refl) (λ _ k. k)
 shaped Direction line kind last at b l h = oneOf-passes digit (codes "80") b refl (both-left _ _ h)
 shaped Lamp line kind last at b l h = from-passes inSet (code "S") (code "T") b refl h
 shaped Stop line kind last at b l h = oneOf-passes inSet (codes "+-") b refl h
 shaped Cause line kind last at b l h = on-either _ _ h (λ e. rw (eqb-true b (code "A") e) refl) (from-passes inSet (code "1") (code "2") b refl)
-shaped Mode line kind last at b l h = on-cond (eqb at 0) _ _ _ _ h (λ k. k) (form-set kind b)
+shaped Mode line kind last at b l h = on-cond (eqb at 0) _ _ h (λ e k. rw e k) (λ e k. rw e (form-set kind b k))
 shaped Watch line kind last at b l h =
-    on-cond (eqb at 0) _ _ _ _ h (λ k. k) (λ k. on-either _ _ k (λ e. rw (eqb-true b (code " ") e) refl) (form-set kind b))
+    on-cond (eqb at 0) _ _ h (λ e k. rw e k) (λ e k. rw e (on-either _ _ k (λ q. rw (eqb-true b (code " ") q) refl) (form-set kind b)))
 shaped Effect line kind last at b l h = oneOf-passes inSet (codes "F16") b refl h
 shaped Sign line kind last at b l h =
-    on-either _ _ h (from-passes inSet (code "0") (code "9") b refl) (from-passes inSet (code "A") (code "V") b refl)
+    on-either _ _ h (digit-set b) (from-passes inSet (code "A") (code "V") b refl)
 shaped Country line kind last at b l h = from-passes inSet (code "0") (code "7") b refl h
 shaped Request line kind last at b l h =
-    on-choice (eqb kind (code "r")) _ _ (inSet b) h (λ e. rw (eqb-true b (dataType line) e) (data-set line l)) (λ k. k)
+    on-cond (eqb kind (code "r")) _ _ h (λ _ e. rw (eqb-true b (dataType line) e) (data-set line l)) (λ _ k. k)
 shaped Approval line kind last at b l h =
-    on-choice (eqb line 3) _ _ (inSet b) h (oneOf-passes inSet (codes "AXY") b refl) (λ k. k)
+    on-cond (eqb line 3) _ _ h (λ _. oneOf-passes inSet (codes "AXY") b refl) (λ _ k. k)
 shaped Unknown line kind last at b l h = clash h
 
 -- a packet has no lead or one of the set
@@ -95,14 +81,14 @@ lead-set Unknown = refl
 -- so such a byte is of the set
 shape-set : (q : Packet) (at b : ℕ) → shape q at b ≡ true → inSet b ≡ true
 shape-set q at b h =
-    on-test (both (not (eqb (leadBy q) 0)) (eqb at 0))
-    (λ e. on-either (eqb (leadBy q) 0) (inSet (leadBy q)) (lead-set q) (λ z. clash (rw z at e)) (λ k. rw (eqb-true b (leadBy q) (rw e at h)) k))
-    (λ e. on-choice (decimalBy q) (digit b) (inSet b) (inSet b) (rw e at h) (digit-set b) (λ k. k))
+    on-cond (both (not (eqb (leadBy q) 0)) (eqb at 0)) _ _ h
+    (λ e k. on-either (eqb (leadBy q) 0) (inSet (leadBy q)) (lead-set q) (λ z. clash (rw z at e)) (λ m. rw (eqb-true b (leadBy q) k) m))
+    (λ _ k. on-cond (decimalBy q) (digit b) (inSet b) k (λ _. digit-set b) (λ _ m. m))
 
 -- and behind the lead a digit of the value's base
 digit-of : (d : Bool) (b : ℕ) → cond d (digit b) (inSet b) ≡ true → (nought d ≤ b) × (b < nought d + base d)
 digit-of true b h = omega (arith, from-bounds (code "0") (code "9") b h)
-digit-of false b h = omega (arith, set-small b h)
+digit-of false b h = omega (arith, low b h)
 
 -- whether a packet's lead stands at a place
 abbrev pub leads : ℕ → ℕ → Bool

@@ -1,7 +1,7 @@
 -- Reading accepts bytes just where checks 1 to 11 find no fault in them. Assumes nothing.
-use mathlib.Core.Path.{_≡_, refl}
-use mathlib.Core.Bool.{Bool, true, false}
-use mathlib.Core.List.{List, _++_}
+use mathlib.Core.Path.{_≡_}
+use mathlib.Core.Bool.{true}
+use mathlib.Core.List.{List}
 use Prim.Native.Nat.{ℕ, _-_}
 use Prim.Native.Char.{code}
 use lib.Dec.{eqb}
@@ -9,20 +9,15 @@ use lib.ListN.{length, getD}
 use borrow.Author.Tests.{eqb-true, eq-eqb}
 use Rattle.forms.specs.Forms.{isLine, formOf, slotsOf, widthOf}
 use Rattle.forms.specs.declared.records.Record.{Record}
-use Rattle.telegram.specs.Answers.{Answer, accepts, refuses, firstFault, unless}
+use Rattle.forms.proofs.Found.{found-line}
+use Rattle.telegram.specs.Answers.{accepts, firstFault}
 use Rattle.telegram.specs.Frame.{fieldOf, frameChecks}
 use Rattle.telegram.specs.Field.{outside, wrongLetter, misshapen, fieldChecks}
-use Rattle.telegram.specs.Reading.{pickAnswer, recordIn, checks, readingOf}
+use Rattle.telegram.specs.Reading.{recordIn, checks, readingOf}
 use Rattle.telegram.specs.declared.answers.Spot.the-variants.{Nowhere}
-use Rattle.trips.proofs.Tests.{never}
 use Rattle.trips.proofs.Faults.{Faultless, faultless-append, faultless-parts, needs-held, no-fault, faultless-good, good-faultless, accepted-good}
 use Rattle.trips.proofs.Fields.{Clear}
 use Rattle.trips.proofs.Frames.{Framed, framed-faultless, faultless-framed}
-
--- what is accepted is accepted on a line
-on-line : (t : Bool) (x : Answer) (rec : Record) (number : ℕ) → pickAnswer t x (refuses 15 0) ≡ accepts rec number → (t ≡ true) × (x ≡ accepts rec number)
-on-line true x rec number h = (refl, h)
-on-line false x rec number h = never (cc)
 
 module _ (line : ℕ) (s : List ℕ) where
   -- what checks 8 to 11 ask
@@ -47,14 +42,17 @@ module _ (line : ℕ) (s : List ℕ) where
       }
 
   -- bytes that pass the checks are accepted
-  pub accepted : isLine line ≡ true → Framed s → Carried → readingOf line s ≡ accepts (recordIn line s) (getD s 4 0 - code "0")
+  pub accepted : Framed s → Carried → readingOf line s ≡ accepts (recordIn line s) (getD s 4 0 - code "0")
   unfolding readingOf checks
-  accepted l f c =
-      rw (l, faultless-good 1 (frameChecks s ++ fieldChecks line s) (faultless-append (frameChecks s) (fieldChecks line s) (framed-faultless s f) (carried-faultless c)))
+  accepted f c =
+      rw (
+        found-line line (getD s 3 0) (c .found),
+        faultless-good 1 (checks line s) (faultless-append (frameChecks s) (fieldChecks line s) (framed-faultless s f) (carried-faultless c)),
+      )
 
   -- what an acceptance says: the bytes pass the checks and carry what they are accepted as
   pub record Accepted (rec : Record) (number : ℕ) : Type 0 where
-    pub known : isLine line ≡ true
+    pub faultless : Faultless (checks line s)
     pub framed : Framed s
     pub carried : Carried
     pub carries : recordIn line s ≡ rec
@@ -63,7 +61,7 @@ module _ (line : ℕ) (s : List ℕ) where
   pub accepted-only : (rec : Record) (number : ℕ) → readingOf line s ≡ accepts rec number → Accepted rec number
   unfolding readingOf checks
   accepted-only rec number h =
-      let p = on-line (isLine line) (unless (firstFault 1 (frameChecks s ++ fieldChecks line s)) (accepts (recordIn line s) (getD s 4 0 - code "0"))) rec number h in
-      let a = accepted-good (firstFault 1 (frameChecks s ++ fieldChecks line s)) (recordIn line s) rec (getD s 4 0 - code "0") number (p .1) in
-      let b = faultless-parts (frameChecks s) (fieldChecks line s) (good-faultless 1 (frameChecks s ++ fieldChecks line s) (a .0)) in
-      record { known = p .0; framed = faultless-framed s (b .0); carried = faultless-carried (b .1); carries = a .1; numbered = a .2 }
+      let a = accepted-good (isLine line) (firstFault 1 (checks line s)) (recordIn line s) rec (getD s 4 0 - code "0") number h in
+      let f = good-faultless 1 (checks line s) (a .0) in
+      let b = faultless-parts (frameChecks s) (fieldChecks line s) f in
+      record { faultless = f; framed = faultless-framed s (b .0); carried = faultless-carried (b .1); carries = a .1; numbered = a .2 }

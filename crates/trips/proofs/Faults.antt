@@ -2,13 +2,15 @@
 use mathlib.Core.Path.{_≡_, refl}
 use mathlib.Core.Bool.{Bool, true, false, cond}
 use mathlib.Core.List.{List, [], _∷_, _++_}
-use Prim.Native.Nat.{ℕ, _+_}
+use Prim.Native.Nat.{ℕ, zero, suc, _+_}
+use lib.ListN.{getD}
+use Rattle.laws.specs.Truth.{All}
+use Rattle.laws.proofs.Truths.{clash}
 use Rattle.forms.specs.declared.records.Record.{Record}
-use Rattle.telegram.specs.Answers.{accepts, Fault, good, fault, firstFault, unless}
+use Rattle.telegram.specs.Answers.{accepts, refuses, Fault, good, fault, firstFault, unless}
 use Rattle.telegram.specs.Frame.{needs}
 use Rattle.telegram.specs.declared.answers.Spot.{Spot}
 use Rattle.telegram.specs.declared.answers.Spot.the-variants.{Nowhere, At}
-use Rattle.trips.proofs.Tests.{never, All}
 
 -- none of the checks finds a fault
 abbrev pub Faultless : List Spot → Type 0
@@ -26,12 +28,12 @@ faultless-parts (x ∷ xs) ys a = let b = faultless-parts xs ys (a .1) in ((a .0
 -- the test of a check that finds no fault holds
 pub needs-held : (t : Bool) (place : ℕ) → needs t place ≡ Nowhere → t ≡ true
 needs-held true place h = refl
-needs-held false place h = never (cc)
+needs-held false place h = clash (cc)
 
 -- a check with no fault passed its test, and so did those behind it
 pub no-fault : (t : Bool) (at : ℕ) (rest : Spot) → cond t rest (At at) ≡ Nowhere → (t ≡ true) × (rest ≡ Nowhere)
 no-fault true at rest h = (refl, h)
-no-fault false at rest h = never (cc)
+no-fault false at rest h = clash (cc)
 
 -- no fault is the first where there is none
 pub faultless-good : (k : ℕ) (spots : List Spot) → Faultless spots → firstFault k spots ≡ good
@@ -42,9 +44,16 @@ faultless-good k (x ∷ spots) a = rw (a .0) (faultless-good (k + 1) spots (a .1
 pub good-faultless : (k : ℕ) (spots : List Spot) → firstFault k spots ≡ good → Faultless spots
 good-faultless k [] h = tt
 good-faultless k (Nowhere ∷ spots) h = (refl, good-faultless (k + 1) spots h)
-good-faultless k (At place ∷ spots) h = never (cc)
+good-faultless k (At place ∷ spots) h = clash (cc)
+
+-- no check of such a row finds one, whatever its index
+pub faultless-at : (spots : List Spot) (i : ℕ) → Faultless spots → getD spots i Nowhere ≡ Nowhere
+faultless-at [] i a = refl
+faultless-at (x ∷ spots) zero a = a .0
+faultless-at (x ∷ spots) (suc i) a = faultless-at spots i (a .1)
 
 -- what is accepted has no fault, and is what would be accepted
-pub accepted-good : (f : Fault) (x r : Record) (m n : ℕ) → unless f (accepts x m) ≡ accepts r n → (f ≡ good) × (x ≡ r) × (m ≡ n)
-accepted-good good x r m n h = (refl, cc, cc)
-accepted-good (fault k place) x r m n h = never (cc)
+pub accepted-good : (t : Bool) (f : Fault) (x r : Record) (m n : ℕ) → cond t (unless f (accepts x m)) (refuses 15 0) ≡ accepts r n → (f ≡ good) × (x ≡ r) × (m ≡ n)
+accepted-good true good x r m n h = (refl, cc, cc)
+accepted-good true (fault k place) x r m n h = clash (cc)
+accepted-good false f x r m n h = clash (cc)

@@ -4,6 +4,7 @@ use mathlib.Core.Bool.{Bool, true}
 use mathlib.Core.List.{List, [], _∷_, _++_}
 use Prim.Native.Nat.{ℕ, zero, suc, _+_, _≤_, _<_}
 use native.Mathlib.Omega.{arith}
+use native.Mathlib.Numerals.{one-add}
 use lib.Dec.{eqb}
 use lib.ListN.{length, getD, take, drop, length-append, length-drop, take-append-drop}
 use lib.Seq.{take-at, drop-at, length-take-le}
@@ -29,9 +30,6 @@ unfolding outside
 set-inside at [] h = refl
 set-inside at (b ∷ d) h = rw (both-left (inSet b) (every inSet d) h) (set-inside (at + 1) d (both-right (inSet b) (every inSet d) h))
 
-one-more : (n : ℕ) → 1 + n ≡ suc n
-one-more n = omega arith
-
 -- packets fill the width of their form
 pub data-length : (ps : List Slot) (vs : List ℕ) → length (dataOf ps vs) ≡ widthIn ps
 unfolding dataOf widthIn
@@ -50,7 +48,7 @@ module _ (p : Slot) (x : ℕ) (d : List ℕ) where
   opened-value = take-at (textOf (p .letter) (p .len) x) d (p .len) (text-length (p .letter) (p .len) x)
 
   opened-after : after p opened ≡ d
-  opened-after = rw (one-more (p .len)) (drop-at (textOf (p .letter) (p .len) x) d (p .len) (text-length (p .letter) (p .len) x))
+  opened-after = rw (one-add (p .len)) (drop-at (textOf (p .letter) (p .len) x) d (p .len) (text-length (p .letter) (p .len) x))
 
 -- each letter is the form's
 pub data-letters : (at : ℕ) (ps : List Slot) (vs : List ℕ) → wrongLetter at ps (dataOf ps vs) ≡ Nowhere
@@ -114,7 +112,7 @@ pub record Clear (line kind at : ℕ) (ps : List Slot) (d : List ℕ) : Type 0 w
 -- a list is its first element, n behind it, and the rest
 split-first : (d : List ℕ) (x n : ℕ) → 0 < length d → getD d 0 0 ≡ x → x ∷ (take n (drop 1 d) ++ drop (1 + n) d) ≡ d
 split-first [] x n h e = absurd (omega arith)
-split-first (b ∷ d) x n h e = rw (one-more n, take-append-drop n d, e)
+split-first (b ∷ d) x n h e = rw (one-add n, take-append-drop n d, e)
 
 module _ (line kind at : ℕ) (p : Slot) (ps : List Slot) (d : List ℕ) (c : Clear line kind at (p ∷ ps) d) where
   clear-filled : length d ≡ 1 + p .len + widthIn ps

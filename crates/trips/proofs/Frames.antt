@@ -13,16 +13,16 @@ use Rattle.laws.specs.Text.{codes}
 use Rattle.laws.specs.Truth.{oneOf}
 use Rattle.laws.specs.Numerals.{numeralOn}
 use Rattle.laws.proofs.Truths.{both-left, both-right, both-true}
+use Rattle.laws.proofs.Passes.{oneOf-passes}
 use Rattle.forms.specs.Checksum.{checksumOf, checkText}
-use Rattle.telegram.specs.Frame.{lf, cr, countText, bodyOf, frameOf, summedOf, fieldOf, isTwo, frameChecks}
-use Rattle.trips.proofs.Tests.{oneOf-passes}
+use Rattle.telegram.specs.Frame.{lf, cr, countText, bodyOf, frameOf, tailText, summedOf, fieldOf, isTwo, frameChecks}
 use Rattle.trips.proofs.Faults.{Faultless, needs-held}
 
 -- the two characters at a place, as a test and as two equations
 two-of : (s : List ℕ) (at : ℕ) (text : List ℕ) → getD s at 0 ≡ getD text 0 0 → getD s (at + 1) 0 ≡ getD text 1 0 → isTwo s at text ≡ true
 two-of s at text h k = both-true _ _ (eq-eqb _ _ h) (eq-eqb _ _ k)
 
-two-are : (s : List ℕ) (at : ℕ) (text : List ℕ) → isTwo s at text ≡ true → (getD s at 0 ≡ getD text 0 0) × (getD s (at + 1) 0 ≡ getD text 1 0)
+pub two-are : (s : List ℕ) (at : ℕ) (text : List ℕ) → isTwo s at text ≡ true → (getD s at 0 ≡ getD text 0 0) × (getD s (at + 1) 0 ≡ getD text 1 0)
 two-are s at text h =
     (eqb-true (getD s at 0) (getD text 0 0) (both-left _ _ h), eqb-true (getD s (at + 1) 0) (getD text 1 0) (both-right (eqb (getD s at 0) (getD text 0 0)) _ h))
 
@@ -68,7 +68,7 @@ faultless-framed s a =
 module _ (kind number : ℕ) (d : List ℕ) where
   -- the checksum and CR
   abbrev tail : List ℕ
-  tail = checkText (checksumOf (bodyOf kind number d)) ++ (cr ∷ [])
+  tail = tailText (checksumOf (bodyOf kind number d))
 
   -- count, type and number are four bytes
   body-length : length (bodyOf kind number d) ≡ length d + 4
@@ -184,7 +184,7 @@ module _ (s : List ℕ) (f : Framed s) where
       ap (λ (t : List ℕ). take (length s - 4) (drop 1 t)) framed-body ∙ take-at body (drop (length s - 3) s) (length s - 4) (omega arith)
 
   -- and by checks 5 and 6 the three bytes are its checksum and CR
-  framed-tail : drop (length s - 3) s ≡ checkText (checksumOf body) ++ (cr ∷ [])
+  framed-tail : drop (length s - 3) s ≡ tailText (checksumOf body)
   unfolding checkText
   framed-tail =
       let c = two-are s (length s - 3) (checkText (checksumOf (summedOf s))) (f .sum) in

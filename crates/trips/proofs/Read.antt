@@ -8,6 +8,7 @@ use lib.ListN.{getD}
 use Rattle.laws.proofs.Truths.{both-true}
 use Rattle.forms.specs.Forms.{Slot, isLine, formOf, slotsOf}
 use Rattle.forms.specs.Records.{typeOf, valuesOf}
+use Rattle.forms.proofs.Found.{found-line}
 use Rattle.values.specs.Values.{permitsRecord}
 use Rattle.telegram.specs.Frame.{fieldOf}
 use Rattle.telegram.specs.Field.{valuesIn}
@@ -19,7 +20,7 @@ use Rattle.trips.proofs.Records.{values-again}
 use Rattle.trips.proofs.Frames.{Framed, framed-frame}
 use Rattle.trips.proofs.Checks.{Carried}
 
-module _ (line : ℕ) (s : List ℕ) (l : isLine line ≡ true) (f : Framed s) (c : Carried line s) where
+module _ (line : ℕ) (s : List ℕ) (f : Framed s) (c : Carried line s) where
   -- the telegram's type, its packets and what the table says of its form
   abbrev kind : ℕ
   kind = getD s 3 0
@@ -29,6 +30,10 @@ module _ (line : ℕ) (s : List ℕ) (l : isLine line ≡ true) (f : Framed s) (
 
   known : Row kind (formOf line kind .form)
   known = row line kind (c .found)
+
+  -- its type is on the line, so there is such a line
+  lined : isLine line ≡ true
+  lined = found-line line kind (c .found)
 
   -- the record has the telegram's type and values
   carried-type : typeOf (recordIn line s) ≡ kind
@@ -44,10 +49,10 @@ module _ (line : ℕ) (s : List ℕ) (l : isLine line ≡ true) (f : Framed s) (
   unfolding permitsRecord
   carried-permitted =
       rw (carried-type, carried-values)
-      (both-true _ _ (c .found) (values-permitted line kind l 10 5 slots (fieldOf s) (known .few) (c .clear)))
+      (both-true _ _ (c .found) (values-permitted line kind lined 10 5 slots (fieldOf s) (known .few) (c .clear)))
 
   -- and its telegram is those bytes
   pub carried-telegram : telegramOf line (recordIn line s) (getD s 4 0 - code "0") ≡ s
   unfolding telegramOf
   carried-telegram =
-      rw (carried-type, carried-values, values-data line kind l 10 5 slots (fieldOf s) (known .few) (c .clear)) (framed-frame s f)
+      rw (carried-type, carried-values, values-data line kind lined 10 5 slots (fieldOf s) (known .few) (c .clear)) (framed-frame s f)

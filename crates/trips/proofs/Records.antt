@@ -8,9 +8,10 @@ use native.Mathlib.Omega.{arith}
 use lib.Dec.{ltb}
 use lib.ListN.{length, getD, take}
 use borrow.Author.Tests.{ltb-true, lt-ltb}
+use Rattle.laws.specs.Truth.{All}
 use Rattle.laws.specs.Numerals.{numeralOn, leftOf, numberOn}
 use Rattle.laws.proofs.Truths.{clash, both-left, both-right}
-use Rattle.forms.specs.Forms.{Slot, forms, formOf, slotsIn, countOf, slotsOf}
+use Rattle.forms.specs.Forms.{Slot, forms, isLine, formOf, slotsIn, countOf, slotsOf}
 use Rattle.values.specs.Packets.{packetOf, leadOf, isDecimal, permits}
 use Rattle.forms.specs.Records.{typeOf, paired, radioValues, fieldsOf, valuesOf, radioOf, recordOf}
 use Rattle.values.specs.Values.{textOf, valueOf, bodyOf, permittedFrom, permitted, permitsValue, permitsValues, permitsRecord}
@@ -18,9 +19,9 @@ use Rattle.forms.specs.declared.records.Radio.{Radio}
 use Rattle.forms.specs.declared.records.Record.{Record}
 use Rattle.forms.specs.declared.records.Record.the-variants.{Approved, Rejected, Request, Idling, Test, Stop, RadioFault, Fault, Position, Train, TrainData, RadioData, RadioUpdate, Transponder}
 use Rattle.forms.specs.declared.table.Form.{Form}
+use Rattle.forms.proofs.Found.{found-row, found-line}
 use Rattle.telegram.specs.Field.{valuesIn}
-use Rattle.trips.proofs.Tests.{All}
-use Rattle.trips.proofs.Rows.{noSlot, isRadio, row, found-row}
+use Rattle.trips.proofs.Rows.{noSlot, isRadio, row}
 use Rattle.trips.proofs.Fields.{first-value, more-values}
 
 -- no V is 0
@@ -66,6 +67,10 @@ module _ (line : ℕ) (r : Record) (h : permitsRecord line r ≡ true) where
   pub permitted-found : formOf line (typeOf r) .found ≡ true
   unfolding permitsRecord
   permitted-found = both-left _ _ h
+
+  -- so its line is 1, 2 or 3
+  pub permitted-line : isLine line ≡ true
+  permitted-line = found-line line (typeOf r) permitted-found
 
   -- and its values are permitted
   pub permitted-values : permitsValues line (typeOf r) (slotsOf (formOf line (typeOf r) .form)) (valuesOf r) ≡ true
@@ -126,4 +131,4 @@ again =
 -- the values of a record that was read are those that it was made of
 pub values-again : (line kind : ℕ) (d : List ℕ) → formOf line kind .found ≡ true
     → valuesOf (recordOf kind (valuesIn 10 (slotsOf (formOf line kind .form)) d)) ≡ valuesIn 10 (slotsOf (formOf line kind .form)) d
-values-again line kind d h = let r = found-row Again line kind again h in rw (r .1) at (r .0 d)
+values-again line kind d h = let r = found-row Again line kind again h in rw (r .of-type) at (r .has d)

@@ -1,6 +1,6 @@
 -- What the table of forms says of a row that it finds: each row passes the same tests, computed once. Assumes nothing.
 use mathlib.Core.Path.{_≡_, refl}
-use mathlib.Core.Bool.{Bool, true, false, cond}
+use mathlib.Core.Bool.{Bool, true, cond}
 use mathlib.Core.List.{List, [], _∷_}
 use Prim.Native.Nat.{ℕ, _≤_}
 use Prim.Native.Char.{code}
@@ -8,35 +8,13 @@ use lib.Dec.{eqb, leb}
 use lib.ListN.{length, getD}
 use borrow.Author.Tests.{eqb-true, leb-true}
 use Rattle.laws.specs.Text.{codes}
-use Rattle.laws.specs.Truth.{oneOf, every}
-use Rattle.laws.proofs.Truths.{clash, both-left}
+use Rattle.laws.specs.Truth.{oneOf, every, All}
+use Rattle.laws.proofs.Passes.{every-all}
 use Rattle.forms.specs.Characters.{inSet}
-use Rattle.forms.specs.Forms.{Slot, forms, onLine, isRow, pickLooked, lookIn, formOf, slotsIn, countOf, slotsOf, widthIn, widthOf}
+use Rattle.forms.specs.Forms.{Slot, forms, formOf, slotsIn, countOf, slotsOf, widthIn, widthOf}
 use Rattle.forms.specs.Records.{typeOf, fieldsOf, recordOf}
 use Rattle.forms.specs.declared.table.Form.{Form}
-use Rattle.forms.specs.declared.table.Looked.{Looked}
-use Rattle.trips.proofs.Tests.{All, every-all}
-
--- what was found is a row of the type that was looked for, and has what each row has
-abbrev Found : (Form → Type 0) → ℕ → Looked → Type 0
-Found P kind x = x .found ≡ true → P (x .form) × (x .form .kind ≡ kind)
-
-picked : (P : Form → Type 0) (kind : ℕ) (t : Bool) (x y : Looked) → (t ≡ true → Found P kind x) → Found P kind y → Found P kind (pickLooked t x y)
-picked P kind true x y f g = f refl
-picked P kind false x y f g = g
-
-looked : (P : Form → Type 0) (fs : List Form) (line kind : ℕ) → All P fs → Found P kind (lookIn fs line kind)
-unfolding lookIn
-looked P [] line kind a = λ h. clash h
-looked P (f ∷ fs) line kind a =
-    picked P kind (isRow f line kind) (record { found = true; form = f }) (lookIn fs line kind)
-    (λ e h. (a .0, eqb-true (f .kind) kind (both-left (eqb (f .kind) kind) (onLine f line) e)))
-    (looked P fs line kind (a .1))
-
--- the form of a type that is on a line is a row of the table, of that type
-pub found-row : (P : Form → Type 0) (line kind : ℕ) → All P forms → formOf line kind .found ≡ true → P (formOf line kind .form) × (formOf line kind .form .kind ≡ kind)
-unfolding formOf
-found-row P line kind a h = looked P forms line kind a h
+use Rattle.forms.proofs.Found.{Found, found-row}
 
 -- what stands for a packet where there is none
 abbrev pub noSlot : Slot
@@ -93,7 +71,7 @@ told f h =
 
 -- what is true of the form of a type that is on a line
 pub row : (line kind : ℕ) → formOf line kind .found ≡ true → Row kind (formOf line kind .form)
-row line kind h = rw (r [] .1) at (told (formOf line kind .form) (λ vs. r vs .0))
+row line kind h = rw (r [] .of-type) at (told (formOf line kind .form) (λ vs. r vs .has))
   where
-    r : (vs : List ℕ) → (passing vs (formOf line kind .form) ≡ true) × (formOf line kind .form .kind ≡ kind)
+    r : (vs : List ℕ) → Found (λ (f : Form). passing vs f ≡ true) line kind (formOf line kind .form)
     r vs = found-row (λ (f : Form). passing vs f ≡ true) line kind (every-all (passing vs) forms (passes vs)) h

@@ -4,22 +4,20 @@ use mathlib.Core.Bool.{Bool, true, false, cond, not}
 use mathlib.Core.List.{List, [], _∷_}
 use Prim.Native.Nat.{ℕ, zero, suc, _+_, _-_}
 use native.Mathlib.Omega.{arith}
+use native.Mathlib.Numerals.{sub-one}
 use lib.Dec.{eqb}
 use lib.ListN.{length, getD, drop}
 use borrow.Author.Tests.{eqb-true, eq-eqb, ne-eqb}
-use Rattle.laws.specs.Truth.{both, every}
+use Rattle.laws.specs.Truth.{every}
 use Rattle.laws.specs.Numerals.{numeral, leftOf, numberOn}
 use Rattle.laws.proofs.Truths.{both-left, both-right, both-true}
+use Rattle.laws.proofs.Passes.{both-off}
 use Rattle.laws.proofs.Digits.{AllDigits, number-numeral, numeral-number, nothing-left, numeral-length}
 use Rattle.forms.specs.Characters.{inSet}
 use Rattle.forms.specs.Forms.{isLine}
 use Rattle.values.specs.Packets.{leadOf, isDecimal, permits}
 use Rattle.values.specs.Values.{led, textOf, valueOf, bodyOf, permittedFrom, permitted, permitsValue}
 use Rattle.trips.proofs.Bytes.{leads, permits-set, permits-lead, permits-digit}
-
--- omega's, as an equation to rewrite by
-less-one : (n : ℕ) → suc n - 1 ≡ n
-less-one n = omega arith
 
 -- the w characters of a number, where t says that no lead stands in front
 abbrev spell : Bool → ℕ → Bool → ℕ → ℕ → List ℕ
@@ -45,7 +43,7 @@ spell-number : (t : Bool) (lead : ℕ) (d : Bool) (w n : ℕ) → leftOf d (cond
 unfolding numberOn leftOf
 spell-number true lead d w n h = number-numeral d w n h
 spell-number false lead d zero n h = sym h
-spell-number false lead d (suc w) n h = number-numeral d w n (rw (less-one w) at h)
+spell-number false lead d (suc w) n h = number-numeral d w n (rw (sub-one (suc w)) at h)
 
 -- the characters are in the right places: the lead, and digits behind it
 abbrev Spelt : Bool → ℕ → Bool → List ℕ → Type 0
@@ -64,7 +62,7 @@ number-left : (t : Bool) (lead : ℕ) (d : Bool) (text : List ℕ) → Spelt t l
 unfolding numberOn leftOf
 number-left true lead d text a = nothing-left d text a
 number-left false lead d [] a = refl
-number-left false lead d (b ∷ bs) a = rw (less-one (length bs)) (nothing-left d bs (a .1))
+number-left false lead d (b ∷ bs) a = rw (sub-one (suc (length bs))) (nothing-left d bs (a .1))
 
 module _ (line kind letter : ℕ) (l : isLine line ≡ true) where
   -- from each place on, permitted bytes are of the set
@@ -82,11 +80,7 @@ module _ (line kind letter : ℕ) (l : isLine line ≡ true) where
 
   -- a lead stands only at the first place
   later : (at : ℕ) → leads letter (at + 1) ≡ false
-  later at = rw (ne-eqb (at + 1) 0 (λ e. omega arith)) (none (not (eqb (leadOf letter) 0)))
-    where
-      none : (x : Bool) → both x false ≡ false
-      none true = refl
-      none false = refl
+  later at = both-off (not (eqb (leadOf letter) 0)) (eqb (at + 1) 0) (ne-eqb (at + 1) 0 (λ e. omega arith))
 
   -- from each place on where no lead stands, permitted bytes are digits of the value's base
   digits-from : (last at : ℕ) (text : List ℕ) → leads letter at ≡ false → permittedFrom line kind letter last at text ≡ true → AllDigits (isDecimal letter) text

@@ -2,13 +2,13 @@
 use mathlib.Core.Path.{_≡_}
 use mathlib.Core.Bool.{true}
 use mathlib.Core.List.{List}
-use Prim.Native.Nat.{ℕ, _+_, _-_, _≤_, _<_}
+use Prim.Native.Nat.{ℕ, _+_, _-_, _<_}
 use Prim.Native.Char.{code}
 use native.Mathlib.Omega.{arith}
 use lib.ListN.{length, getD}
-use Rattle.forms.specs.Forms.{Slot, isLine, formOf, slotsOf, widthOf}
+use Rattle.forms.specs.Forms.{Slot, formOf, slotsOf, widthOf}
 use Rattle.forms.specs.Records.{typeOf, fieldsOf, valuesOf}
-use Rattle.values.specs.Values.{permitsRecord, lengthOf}
+use Rattle.values.specs.Values.{permitsRecord}
 use Rattle.forms.specs.declared.records.Record.{Record}
 use Rattle.telegram.specs.Field.{dataOf, outside, valuesIn}
 use Rattle.telegram.specs.Reading.{recordIn}
@@ -16,7 +16,7 @@ use Rattle.telegram.specs.Writing.{telegramOf}
 use Rattle.telegram.specs.declared.answers.Spot.the-variants.{Nowhere}
 use Rattle.trips.proofs.Rows.{Row, row}
 use Rattle.trips.proofs.Fields.{Clear, set-inside, data-length, data-letters, data-set, data-permitted, data-values}
-use Rattle.trips.proofs.Records.{permitted-found, permitted-values, record-again}
+use Rattle.trips.proofs.Records.{permitted-found, permitted-line, permitted-values, record-again}
 use Rattle.trips.proofs.Frames.{Framed, frame-length, frame-kind, frame-number, frame-field, frame-framed}
 use Rattle.trips.proofs.Checks.{Carried}
 
@@ -44,8 +44,9 @@ module _ (line : ℕ) (rec : Record) (h : permitsRecord line rec ≡ true) where
       data-values line (typeOf rec) 10 slots (fieldsOf rec) e (permitted-values line rec h)
 
   -- its bytes are of the set, its letters the form's and its values permitted
-  field-inside : isLine line ≡ true → outside 5 field ≡ Nowhere
-  field-inside l = set-inside 5 field (data-set line (typeOf rec) slots (valuesOf rec) l (known .letters) (permitted-values line rec h))
+  field-inside : outside 5 field ≡ Nowhere
+  field-inside =
+      set-inside 5 field (data-set line (typeOf rec) slots (valuesOf rec) (permitted-line line rec h) (known .letters) (permitted-values line rec h))
 
   field-clear : Clear line (typeOf rec) 5 slots field
   field-clear =
@@ -56,12 +57,12 @@ module _ (line : ℕ) (rec : Record) (h : permitsRecord line rec ≡ true) where
       }
 
   -- checks 8 to 11 find no fault in the telegram
-  pub written-carried : (number : ℕ) → isLine line ≡ true → Carried line (telegramOf line rec number)
+  pub written-carried : (number : ℕ) → Carried line (telegramOf line rec number)
   unfolding telegramOf
-  written-carried number l =
+  written-carried number =
       record {
         found = rw (frame-kind (typeOf rec) number field) (permitted-found line rec h);
-        inside = rw (frame-field (typeOf rec) number field) (field-inside l);
+        inside = rw (frame-field (typeOf rec) number field) field-inside;
         clear = rw (frame-kind (typeOf rec) number field, frame-field (typeOf rec) number field) field-clear;
       }
 
@@ -71,18 +72,9 @@ module _ (line : ℕ) (rec : Record) (h : permitsRecord line rec ≡ true) where
   written-carries number = rw (frame-kind (typeOf rec) number field, frame-field (typeOf rec) number field, field-values) (record-again line rec h)
 
   -- its length is the form's width and 8 more
-  written-width : lengthOf line rec ≡ 8 + widthOf (formOf line (typeOf rec) .form)
-  unfolding lengthOf
-  written-width = rw (permitted-found line rec h)
-
-  -- so is the telegram's
-  pub written-length : (number : ℕ) → length (telegramOf line rec number) ≡ lengthOf line rec
+  pub written-length : (number : ℕ) → length (telegramOf line rec number) ≡ 8 + widthOf (formOf line (typeOf rec) .form)
   unfolding telegramOf
-  written-length number = omega (arith, frame-length (typeOf rec) number field, field-length, written-width)
-
-  -- and the form's width bounds it
-  pub written-bounds : (10 ≤ lengthOf line rec) × (lengthOf line rec ≤ 66)
-  written-bounds = omega (arith, written-width, known .wide, known .narrow)
+  written-length number = omega (arith, frame-length (typeOf rec) number field, field-length)
 
   -- checks 1 to 7 find no fault in it
   pub written-framed : (number : ℕ) → number < 2 → Framed (telegramOf line rec number)

@@ -1,6 +1,6 @@
 -- What is found of a record on a line. Assumes nothing.
-use mathlib.Core.Path.{_≡_, refl, sym, ap, _∙_, subst}
-use mathlib.Core.Bool.{Bool, true, false, cond}
+use mathlib.Core.Path.{_≡_, ap, _∙_, subst}
+use mathlib.Core.Bool.{true, false, cond}
 use mathlib.Core.List.{List}
 use Prim.Native.Nat.{ℕ, _+_}
 use Rattle.forms.specs.Forms.{formOf, slotsOf, widthOf}

@@ -1,18 +1,19 @@
 -- The characters of a packet's value, in a part of the output and byte by byte. Assumes nothing.
-use mathlib.Core.Path.{_≡_, refl, sym, ap, _∙_}
-use mathlib.Core.Bool.{Bool, true, false, cond}
+use mathlib.Core.Path.{_≡_, refl, sym, _∙_}
+use mathlib.Core.Bool.{Bool, true, false}
 use mathlib.Core.List.{List, [], _∷_, append-nil}
-use Prim.Native.Nat.{ℕ, zero, suc, _+_, _-_, _≤_, _<_}
+use Prim.Native.Nat.{ℕ, suc, _+_, _-_, _<_}
 use native.Mathlib.Omega.{arith}
 use native.Mathlib.Numerals.{add-one}
-use lib.ListN.{length, take, drop, set, getD}
-use lib.Seq.{drop-length, take-length, drop-cons, drop-drop, getD-drop}
+use lib.ListN.{length, drop, set, getD}
+use lib.Seq.{drop-length, take-length, drop-cons, drop-drop}
 use borrow.Rule.Slice.PartMut.{putMid, midOf}
 use borrow.Author.Tests.{eq-eqb, ne-eqb}
-use Rattle.laws.specs.Numerals.{numeral, numeralOn}
+use Rattle.laws.specs.Numerals.{numeral}
 use Rattle.values.specs.Packets.{leadOf, isDecimal, permits}
 use Rattle.values.specs.Values.{textOf, packetText, permittedFrom, permitted, permitsValue, permitsValues}
 use Rattle.forms.specs.Forms.{slotsIn}
+use Rattle.forms.proofs.Parts.{part-first}
 use Rattle.forms.proofs.Slots.{slots-step}
 
 -- the first byte is x, and all behind it comes back as f says of its length
@@ -73,9 +74,9 @@ module _ (line kind : ℕ) (ls ws vs : List ℕ) (n j : ℕ) (more : j < n) wher
   pub value-good : permitsValue line kind (getD ls j 0) (getD ws j 0) (getD vs j 0) ≡ true
       → permitsValues line kind (slotsIn (n - j) (drop j ls) (drop j ws)) (drop j vs) ≡ permitsValues line kind (slotsIn (n - (j + 1)) (drop (j + 1) ls) (drop (j + 1) ws)) (drop (j + 1) vs)
   unfolding permitsValues
-  value-good g = let z : j + 0 ≡ j = omega arith in rw (slots-step ls ws n j more, getD-drop j vs 0 0, z, g, drop-drop 1 j vs)
+  value-good g = rw (slots-step ls ws n j more, part-first vs j, g, drop-drop 1 j vs)
 
   pub value-bad : permitsValue line kind (getD ls j 0) (getD ws j 0) (getD vs j 0) ≡ false
       → permitsValues line kind (slotsIn (n - j) (drop j ls) (drop j ws)) (drop j vs) ≡ false
   unfolding permitsValues
-  value-bad g = let z : j + 0 ≡ j = omega arith in rw (slots-step ls ws n j more, getD-drop j vs 0 0, z, g)
+  value-bad g = rw (slots-step ls ws n j more, part-first vs j, g)

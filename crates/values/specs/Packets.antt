@@ -10,27 +10,23 @@ use Rattle.forms.specs.Forms.{dataType}
 use Rattle.values.specs.declared.packets.Packet.{Packet}
 use Rattle.values.specs.declared.packets.Packet.the-variants.{Digits, Channel, Position, Direction, Lamp, Stop, Cause, Mode, Watch, Effect, Sign, Country, Request, Approval, Unknown}
 
-abbrev pub pickPacket : Bool → Packet → Packet → Packet
-pickPacket true a b = a
-pickPacket false a b = b
-
 -- the packet type of a letter (001 section 5.4)
 unfoldable pub packetOf : ℕ → Packet
 packetOf letter =
-    pickPacket (oneOf (codes "L%HESDCT") letter) Digits
-    (pickPacket (eqb letter (code "F")) Channel
-    (pickPacket (eqb letter (code "P")) Position
-    (pickPacket (eqb letter (code "R")) Direction
-    (pickPacket (eqb letter (code "m")) Lamp
-    (pickPacket (eqb letter (code "U")) Stop
-    (pickPacket (eqb letter (code "N")) Cause
-    (pickPacket (eqb letter (code "M")) Mode
-    (pickPacket (eqb letter (code "V")) Watch
-    (pickPacket (oneOf (codes "WX") letter) Effect
-    (pickPacket (eqb letter (code "Y")) Sign
-    (pickPacket (eqb letter (code "Z")) Country
-    (pickPacket (eqb letter (code "B")) Request
-    (pickPacket (eqb letter (code "A")) Approval Unknown)))))))))))))
+    cond (oneOf (codes "L%HESDCT") letter) Digits
+    (cond (eqb letter (code "F")) Channel
+    (cond (eqb letter (code "P")) Position
+    (cond (eqb letter (code "R")) Direction
+    (cond (eqb letter (code "m")) Lamp
+    (cond (eqb letter (code "U")) Stop
+    (cond (eqb letter (code "N")) Cause
+    (cond (eqb letter (code "M")) Mode
+    (cond (eqb letter (code "V")) Watch
+    (cond (oneOf (codes "WX") letter) Effect
+    (cond (eqb letter (code "Y")) Sign
+    (cond (eqb letter (code "Z")) Country
+    (cond (eqb letter (code "B")) Request
+    (cond (eqb letter (code "A")) Approval Unknown)))))))))))))
 
 -- the fixed character that a value begins with: F is the letter C and digits, M and V are a colon and characters
 abbrev pub leadBy : Packet → ℕ

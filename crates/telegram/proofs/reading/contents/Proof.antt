@@ -67,7 +67,7 @@ digit-of-requires c κs = search needs
 
 -- src/reading.rt:133:5
 in-form-requires : tie.Need-in-form-requires
-in-form-requires c κs = rw (c .before .before .before .before .before .before .before .before .before .before .form-of .ensures) (form-narrow (c .before .before .before .before .before .before .before .before .before .before .before .before .before .args .line) (c .before .before .before .before .before .before .before .before .before .before .before .byte-at .result))
+in-form-requires c κs = form-narrow (c .before .before .before .before .before .before .before .before .before .before .before .before .before .args .line) (c .before .before .before .before .before .before .before .before .before .before .before .byte-at .result) (c .before .before .before .before .before .before .before .before .before .before .form-of .result) (c .before .before .before .before .before .before .before .before .before .before .form-of .ensures) (not-false (c .before .before .before .before .before .before .before .before .before .before .form-of .result .found) (c .before .before .before .before .before .before .before .before .if1 .left))
 
 -- src/reading.rt:119:1
 returns-3 : tie.Need-returns-3

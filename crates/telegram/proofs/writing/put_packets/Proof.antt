@@ -1,10 +1,10 @@
-use Rattle.telegram.proofs.Put.{width-here, packet-here}
+use Rattle.telegram.proofs.Put.{packet-here}
 use Rattle.telegram.specs.Field.{dataOf}
 use Rattle.forms.specs.Forms.{widthIn, widthOf}
 use lib.Seq.{take-all}
 use native.Mathlib.Nat.{zero-add}
 use mathlib.Core.List.{append-nil}
-use Rattle.forms.proofs.Slots.{count-small, slots-end}
+use Rattle.forms.proofs.Slots.{count-small, slots-end, width-here}
 use Rattle.forms.specs.Forms.{slotsIn, slotsOf}
 use lib.ListN.{length, take, drop, getD}
 use mathlib.Core.List.{[], _++_}
@@ -48,11 +48,11 @@ wide-requires c κs = search needs
 
 -- src/writing.rt:64:25
 add-end : tie.Need-add-end Inv-loop μ-loop
-add-end c = omega (arith, width-here (c .before .before .before .before .before .before .before .args .form .letters) (c .before .before .before .before .before .before .before .args .form .lens) [] (c .before .before .before .count-of .result) (c .before .before .loop .j) (c .before .loop-test .taken), c .wide .ensures .0)
+add-end c = omega (arith, width-here (c .before .before .before .before .before .before .before .args .form .letters) (c .before .before .before .before .before .before .before .args .form .lens) (c .before .before .before .count-of .result) (c .before .before .loop .j) (c .before .loop-test .taken), c .wide .ensures .0)
 
 -- src/writing.rt:64:19
 add-end-2 : tie.Need-add-end-2 Inv-loop μ-loop
-add-end-2 c = omega (arith, width-here (c .before .before .before .before .before .before .before .args .form .letters) (c .before .before .before .before .before .before .before .args .form .lens) [] (c .before .before .before .count-of .result) (c .before .before .loop .j) (c .before .loop-test .taken), c .wide .ensures .0)
+add-end-2 c = omega (arith, width-here (c .before .before .before .before .before .before .before .args .form .letters) (c .before .before .before .before .before .before .before .args .form .lens) (c .before .before .before .count-of .result) (c .before .before .loop .j) (c .before .loop-test .taken), c .wide .ensures .0)
 
 -- src/writing.rt:65:20
 sub-put-packet : tie.Need-sub-put-packet Inv-loop μ-loop
@@ -64,7 +64,7 @@ part-put-packet-start c = omega arith
 
 -- src/writing.rt:65:20
 part-put-packet-end : tie.Need-part-put-packet-end Inv-loop μ-loop
-part-put-packet-end c = omega (arith, width-here (c .before .before .before .before .before .before .before .args .form .letters) (c .before .before .before .before .before .before .before .args .form .lens) [] (c .before .before .before .count-of .result) (c .before .before .loop .j) (c .before .loop-test .taken), c .wide .ensures .0)
+part-put-packet-end c = omega (arith, width-here (c .before .before .before .before .before .before .before .args .form .letters) (c .before .before .before .before .before .before .before .args .form .lens) (c .before .before .before .count-of .result) (c .before .before .loop .j) (c .before .loop-test .taken), c .wide .ensures .0)
 
 -- src/writing.rt:65:41
 array-read-put-packet : tie.Need-array-read-put-packet Inv-loop μ-loop
@@ -95,7 +95,7 @@ loop-again : tie.Need-loop-again Inv-loop μ-loop
 loop-again c =
     let a = c .before .before .before .before .before .before .before .before .before .before .before .args in let l = c .before .before .before .before .before .before .loop in let n = c .before .before .before .before .before .before .before .count-of .result in
     let w = c .before .before .before .before .wide in
-    let k = width-here (c .before .before .before .before .before .before .before .before .before .before .before .args .form .letters) (c .before .before .before .before .before .before .before .before .before .before .before .args .form .lens) [] (c .before .before .before .before .before .before .before .count-of .result) (c .before .before .before .before .before .before .loop .j) (c .before .before .before .before .before .loop-test .taken) in (
+    let k = width-here (c .before .before .before .before .before .before .before .before .before .before .before .args .form .letters) (c .before .before .before .before .before .before .before .before .before .before .before .args .form .lens) (c .before .before .before .before .before .before .before .count-of .result) (c .before .before .before .before .before .before .loop .j) (c .before .before .before .before .before .loop-test .taken) in (
       l .inv .0,
       omega arith,
       c .before .field .given .1 ∙ l .inv .2,

@@ -1,0 +1,10 @@
+pub mod Cases
+pub mod Steps
+pub mod Readings
+pub mod Openings
+pub mod First
+pub mod Streams
+pub mod Ranges
+pub mod Held
+pub mod Hits
+pub mod Agree

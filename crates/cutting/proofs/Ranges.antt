@@ -1,0 +1,72 @@
+-- From the start the gatherer keeps its ranges, whatever it hears (01 'Numbered answers', 15). Assumes nothing.
+use mathlib.Core.Path.{_≡_, refl, _∙_}
+use mathlib.Core.List.{List, [], _∷_}
+use Prim.Native.Nat.{ℕ, _+_, _≤_}
+use native.Mathlib.Omega.{arith}
+use lib.ListN.{length, take, length-set}
+use lib.Seq.{length-take-le}
+use borrow.Author.Tests.{le-ltb}
+use Rattle.cutting.specs.declared.turns.Turn.{Turn}
+use Rattle.cutting.specs.declared.turns.Turn.the-variants.{Joins, Ends, Drops}
+use Rattle.cutting.specs.declared.gather.Heard.{Heard}
+use Rattle.cutting.specs.declared.gather.Heard.the-variants.{Byte, Hit}
+use Rattle.cutting.specs.declared.gather.Gatherer.{Gatherer}
+use Rattle.cutting.specs.Turns.{turnOf}
+use Rattle.cutting.specs.Gather.{none, telegram, refuses, atStart, turned, heardOf, gatherOf}
+use Rattle.cutting.proofs.Cases.{joins-at, ends-at}
+use Rattle.cutting.proofs.Streams.{InRange, after}
+
+-- in its ranges a state hears the item
+pub hears : (g : Gatherer) (item : Heard) → InRange g → gatherOf g item ≡ heardOf g item
+unfolding gatherOf
+hears g item r = rw (le-ltb 65 (g .len) (r .few))
+
+-- a byte's turn keeps the ranges
+pub turn-range : (g : Gatherer) (byte : ℕ) (t : Turn) → InRange g → turnOf (g .len) byte ≡ t → InRange (turned g byte t .0)
+turn-range g byte (Joins at) r e = record { few = omega (arith, joins-at (g .len) byte at e .1); whole = length-set (g .bytes) at byte ∙ r .whole }
+turn-range g byte (Ends at) r e = record { few = omega arith; whole = length-set (g .bytes) at byte ∙ r .whole }
+turn-range g byte Drops r e = record { few = omega arith; whole = r .whole }
+
+-- so does an item
+pub step-range : (g : Gatherer) (item : Heard) → InRange g → InRange (gatherOf g item .0)
+step-range g (Byte byte) r = rw (hears g (Byte byte) r) (turn-range g byte (turnOf (g .len) byte) r refl)
+step-range g Hit r = rw (hears g Hit r) record { few = omega arith; whole = r .whole }
+
+-- in its ranges a state refuses nothing
+pub not-refused : (g : Gatherer) (item : Heard) (number place : ℕ) → InRange g → ¬ (gatherOf g item .1 ≡ refuses number place)
+not-refused g (Byte byte) number place r e = turn (turnOf (g .len) byte) (rw (hears g (Byte byte) r) at e)
+  where
+    turn : (t : Turn) → ¬ (turned g byte t .1 ≡ refuses number place)
+    turn (Joins at) q = let z : _≡_ {A = ℕ} 0 1 = cc in omega arith
+    turn (Ends at) q = let z : _≡_ {A = ℕ} 0 1 = cc in omega arith
+    turn Drops q = let z : _≡_ {A = ℕ} 0 1 = cc in omega arith
+not-refused g Hit number place r e = let q : none ≡ refuses number place = rw (hears g Hit r) at e in let z : _≡_ {A = ℕ} 0 1 = cc in omega arith
+
+-- the number that a step answers is the number of its telegram's bytes
+pub telegram-number : (g : Gatherer) (item : Heard) (n : ℕ) → InRange g → gatherOf g item .1 ≡ telegram n → length (take n (gatherOf g item .0 .bytes)) ≡ n
+telegram-number g item n r e = length-take-le n (gatherOf g item .0 .bytes) (omega (arith, step-range g item r .whole, few item (rw (hears g item r) at e)))
+  where
+    turn : (byte : ℕ) (t : Turn) → turnOf (g .len) byte ≡ t → turned g byte t .1 ≡ telegram n → n ≤ 66
+    turn byte (Joins at) e q = let z : _≡_ {A = ℕ} 0 1 = cc in let y : ⊥ = omega arith in absurd y
+    turn byte (Ends at) e q = let x : at + 1 ≡ n = cc in omega (arith, ends-at (g .len) byte at e, r .few)
+    turn byte Drops e q = let z : _≡_ {A = ℕ} 0 1 = cc in let y : ⊥ = omega arith in absurd y
+
+    few : (item : Heard) → heardOf g item .1 ≡ telegram n → n ≤ 66
+    few (Byte byte) q = turn byte (turnOf (g .len) byte) refl q
+    few Hit q = let z : _≡_ {A = ℕ} 0 1 = cc in let y : ⊥ = omega arith in absurd y
+
+after-range : (g : Gatherer) (items : List Heard) → InRange g → InRange (after g items)
+unfolding after
+after-range g [] r = r
+after-range g (item ∷ items) r = after-range (gatherOf g item .0) items (step-range g item r)
+
+pub start-range : InRange atStart
+start-range = record { few = omega arith; whole = refl }
+
+-- from the start, under any items, the gatherer is in its ranges
+pub always-in-range : (items : List Heard) → InRange (after atStart items)
+always-in-range items = after-range atStart items start-range
+
+-- so its own calls are never refused 15, nor refused at all
+pub never-refused : (items : List Heard) (item : Heard) (number place : ℕ) → ¬ (gatherOf (after atStart items) item .1 ≡ refuses number place)
+never-refused items item number place = not-refused (after atStart items) item number place (always-in-range items)

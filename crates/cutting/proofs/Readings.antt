@@ -1,0 +1,25 @@
+-- The three answers of cutting and reading. Assumes nothing.
+use mathlib.Core.Path.{_≡_, ap}
+use mathlib.Core.Bool.{true, false}
+use mathlib.Core.List.{List}
+use Prim.Native.Nat.{ℕ}
+use Rattle.forms.specs.Forms.{isLine}
+use Rattle.telegram.specs.declared.answers.Reading.{Reading}
+use Rattle.telegram.specs.Answers.{answerOf}
+use Rattle.telegram.specs.Reading.{readingOf}
+use Rattle.cutting.specs.declared.search.Span.the-variants.{Found, Nothing}
+use Rattle.cutting.specs.Search.{spanOf, partOf, none, reads, refuses, nextOf}
+
+module _ (line : ℕ) (s : List ℕ) (from : ℕ) where
+  pub bad-line : isLine line ≡ false → refuses 15 0 ≡ nextOf line s from
+  unfolding nextOf
+  bad-line l = rw l
+
+  pub nothing-left : isLine line ≡ true → spanOf s from ≡ Nothing → none ≡ nextOf line s from
+  unfolding nextOf
+  nothing-left l e = rw (l, e)
+
+  pub cut-and-read : (start end : ℕ) (part : List ℕ) (reading : Reading) → isLine line ≡ true → spanOf s from ≡ Found start end
+      → part ≡ partOf s (Found start end) → answerOf reading ≡ readingOf line part → reads start end (answerOf reading) ≡ nextOf line s from
+  unfolding nextOf
+  cut-and-read start end part reading l e p r = rw (l, e, ← p) (ap (reads start end) r)

@@ -1,0 +1,55 @@
+-- Gathering a telegram item by item (01 'Cutting the stream'). Assumes nothing.
+use Prim.Native.Nat.{ℕ, _+_}
+use mathlib.Core.Bool.{Bool, true, false}
+use lib.Dec.{ltb}
+use lib.ListN.{set, replicate}
+use Rattle.forms.specs.Refusals.{numberOf, placeOf}
+use Rattle.cutting.specs.declared.turns.Turn.{Turn}
+use Rattle.cutting.specs.declared.turns.Turn.the-variants.{Joins, Ends, Drops}
+use Rattle.cutting.specs.declared.gather.Heard.{Heard}
+use Rattle.cutting.specs.declared.gather.Heard.the-variants.{Byte, Hit}
+use Rattle.cutting.specs.declared.gather.Gatherer.{Gatherer}
+use Rattle.cutting.specs.declared.gather.Gathered as g
+use Rattle.cutting.specs.Turns.{turnOf}
+
+-- what a step hands out: nothing, a telegram of so many bytes, or a refusal's number and place
+pub data Cut : Type 0 where
+  none : Cut
+  telegram : ℕ → Cut
+  refuses : ℕ → ℕ → Cut
+
+abbrev pub gatheredOf : g.Gathered → Cut
+gatheredOf g.the-variants.Nothing = none
+gatheredOf (g.the-variants.Telegram n) = telegram n
+gatheredOf (g.the-variants.Refused x) = refuses (numberOf x) (placeOf x)
+
+-- the state at the start, outside a telegram
+abbrev pub atStart : Gatherer
+atStart = record { bytes = replicate 66 0; len = 0 }
+
+-- a byte put at an index, with so many bytes gathered
+abbrev pub holding : Gatherer → ℕ → ℕ → ℕ → Gatherer
+holding g at byte n = record { bytes = set (g .bytes) at byte; len = n }
+
+-- outside a telegram, the bytes as they are
+abbrev pub shut : Gatherer → Gatherer
+shut g = record { bytes = g .bytes; len = 0 }
+
+-- what a byte's turn makes of the state: a telegram that ends lies at its front
+abbrev pub turned : Gatherer → ℕ → Turn → Gatherer × Cut
+turned g byte (Joins at) = (holding g at byte (at + 1), none)
+turned g byte (Ends at) = (holding g at byte 0, telegram (at + 1))
+turned g byte Drops = (shut g, none)
+
+-- a heard item is a byte or a hit; a hit drops what was begun
+abbrev pub heardOf : Gatherer → Heard → Gatherer × Cut
+heardOf g (Byte byte) = turned g byte (turnOf (g .len) byte)
+heardOf g Hit = (shut g, none)
+
+abbrev pub pickCut : Bool → Gatherer × Cut → Gatherer × Cut → Gatherer × Cut
+pickCut true a b = a
+pickCut false a b = b
+
+-- 15 where the state is out of its ranges, which stays as it was
+unfoldable pub gatherOf : Gatherer → Heard → Gatherer × Cut
+gatherOf g item = pickCut (ltb 65 (g .len)) (g, refuses 15 0) (heardOf g item)

@@ -1,0 +1,67 @@
+-- The search for the next telegram in bytes (01 'Cutting the stream'). Assumes nothing.
+use Prim.Native.Nat.{ℕ, _+_, _-_}
+use mathlib.Core.Bool.{Bool, true, false}
+use mathlib.Core.List.{List, [], _∷_}
+use lib.ListN.{length, take, drop}
+use Rattle.forms.specs.Refusals.{numberOf, placeOf}
+use Rattle.forms.specs.Forms.{isLine}
+use Rattle.telegram.specs.Answers.{Answer, answerOf}
+use Rattle.telegram.specs.Reading.{readingOf}
+use Rattle.cutting.specs.declared.turns.Turn.{Turn}
+use Rattle.cutting.specs.declared.turns.Turn.the-variants.{Joins, Ends, Drops}
+use Rattle.cutting.specs.declared.search.Span.{Span}
+use Rattle.cutting.specs.declared.search.Span.the-variants.{Found, Nothing}
+use Rattle.cutting.specs.declared.search.Cutting as c
+use Rattle.cutting.specs.Turns.{turnOf}
+
+-- what the turn of the byte at place i finds, or how the search goes on with so many bytes gathered
+abbrev pub onTurn : Turn → ℕ → (ℕ → Span) → Span
+onTurn (Joins at) i go = go (at + 1)
+onTurn (Ends at) i go = Found (i - at) (i + 1)
+onTurn Drops i go = go 0
+
+-- what is found in bytes of which the first stands at place i, with len bytes gathered before it
+unfoldable pub cutFrom : List ℕ → ℕ → ℕ → Span
+cutFrom [] len i = Nothing
+cutFrom (byte ∷ rest) len i = onTurn (turnOf len byte) i (λ n. cutFrom rest n (i + 1))
+
+-- the next telegram of s, looking from a place on
+unfoldable pub spanOf : List ℕ → ℕ → Span
+spanOf s from = cutFrom (drop from s) 0 from
+
+-- the bytes that a span names
+abbrev pub partOf : List ℕ → Span → List ℕ
+partOf s (Found start end) = take (end - start) (drop start s)
+partOf s Nothing = []
+
+abbrev pub startOf : Span → ℕ → ℕ
+startOf (Found start end) other = start
+startOf Nothing other = other
+
+-- the offset of a span and its bytes; none: an empty part at the end
+abbrev pub placed : List ℕ → Span → ℕ × List ℕ
+placed s span = (startOf span (length s), partOf s span)
+
+-- what cutting and reading finds: nothing, a telegram from start to end with what it reads as, or a refusal's number and place
+pub data Next : Type 0 where
+  none : Next
+  reads : ℕ → ℕ → Answer → Next
+  refuses : ℕ → ℕ → Next
+
+abbrev pub cuttingOf : c.Cutting → Next
+cuttingOf (c.the-variants.Read start end reading) = reads start end (answerOf reading)
+cuttingOf c.the-variants.Nothing = none
+cuttingOf (c.the-variants.Refused x) = refuses (numberOf x) (placeOf x)
+
+abbrev pub pickNext : Bool → Next → Next → Next
+pickNext true a b = a
+pickNext false a b = b
+
+-- a cut telegram is then read
+abbrev pub readAt : ℕ → List ℕ → Span → Next
+readAt line s (Found start end) = reads start end (readingOf line (partOf s (Found start end)))
+readAt line s Nothing = none
+
+-- 15 comes before all
+unfoldable pub nextOf : ℕ → List ℕ → ℕ → Next
+nextOf line s from = pickNext (isLine line) (readAt line s (spanOf s from)) (refuses 15 0)
