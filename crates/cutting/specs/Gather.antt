@@ -9,8 +9,8 @@ use Rattle.cutting.specs.declared.turns.Turn.the-variants.{Joins, Ends, 
 use Rattle.cutting.specs.declared.gather.Heard.{Heard}
 use Rattle.cutting.specs.declared.gather.Heard.the-variants.{Byte, Hit}
 use Rattle.cutting.specs.declared.gather.Gatherer.{Gatherer}
-use Rattle.cutting.specs.declared.gather.Gathered as g
 use Rattle.cutting.specs.Turns.{turnOf}
+use Rattle.cutting.specs.declared.gather.Gathered as g
 
 -- what a step hands out: nothing, a telegram of so many bytes, or a refusal's number and place
 pub data Cut : Type 0 where

@@ -11,8 +11,8 @@ use Rattle.cutting.specs.declared.turns.Turn.{Turn}
 use Rattle.cutting.specs.declared.turns.Turn.the-variants.{Joins, Ends, Drops}
 use Rattle.cutting.specs.declared.search.Span.{Span}
 use Rattle.cutting.specs.declared.search.Span.the-variants.{Found, Nothing}
-use Rattle.cutting.specs.declared.search.Cutting as c
 use Rattle.cutting.specs.Turns.{turnOf}
+use Rattle.cutting.specs.declared.search.Cutting as c
 
 -- what the turn of the byte at place i finds, or how the search goes on with so many bytes gathered
 abbrev pub onTurn : Turn → ℕ → (ℕ → Span) → Span

@@ -1,10 +1,10 @@
 -- What a test that holds says of its parts. Assumes nothing.
+-- a test whose negation holds fails, and one whose negation fails holds
 use mathlib.Core.Path.{_≡_, refl}
 use mathlib.Core.Bool.{Bool, true, false}
 use Prim.Native.Nat.{ℕ}
 use native.Mathlib.Omega.{arith}
 use Rattle.laws.specs.Truth.{both}
--- a test whose negation holds fails, and one whose negation fails holds
 pub use borrow.Author.Tests.{not-true, not-false}
 
 pub both-left : (a b : Bool) → both a b ≡ true → a ≡ true

@@ -22,10 +22,10 @@ use Rattle.telegram.specs.Answers.{accepts, refuses, Fault, good, fault, firstF
 use Rattle.telegram.specs.Frame.{lf, cr, countText, summedOf, fieldOf, frameChecks}
 use Rattle.telegram.specs.Field.{outside, wrongLetter, badValue, misshapen, fieldChecks}
 use Rattle.telegram.specs.Reading.{checks, readingOf}
-use Rattle.telegram.proofs.Contents as contents
 use Rattle.trips.proofs.Faults.{faultless-at}
 use Rattle.trips.proofs.Checks.{accepted-only}
 use Rattle.papers.specs.Cases.{framed}
+use Rattle.telegram.proofs.Contents as contents
 
 -- bytes on a line, the number of their refusal and its place
 pub record Refused : Type 0 where

@@ -3,11 +3,11 @@ use Prim.Native.Nat.{ℕ, _+_}
 use mathlib.Core.List.{List, [], _∷_}
 use Rattle.forms.specs.Refusals.{numberOf, placeOf}
 use Rattle.forms.specs.declared.records.Record.{Record}
+use Rattle.telegram.specs.declared.answers.Spot.{Spot}
+use Rattle.telegram.specs.declared.answers.Spot.the-variants.{Nowhere, At}
 use Rattle.telegram.specs.declared.answers.Reading as r
 use Rattle.telegram.specs.declared.answers.Writing as w
 use Rattle.telegram.specs.declared.answers.Check as c
-use Rattle.telegram.specs.declared.answers.Spot.{Spot}
-use Rattle.telegram.specs.declared.answers.Spot.the-variants.{Nowhere, At}
 
 -- a record with its number, or a refusal's number and place
 pub data Answer : Type 0 where

@@ -1,9 +1,9 @@
 -- What bytes on a line read as (01 'Numbered answers'). Assumes nothing.
 use Prim.Native.Nat.{ℕ, _-_}
 use Prim.Native.Char.{code}
-use mathlib.Core.Bool.{Bool, true, false, cond}
+use mathlib.Core.Bool.{cond}
 use mathlib.Core.List.{List, [], _∷_, _++_}
-use lib.ListN.{length, getD}
+use lib.ListN.{getD}
 use Rattle.forms.specs.Forms.{slotsOf, formOf, isLine}
 use Rattle.forms.specs.Records.{recordOf}
 use Rattle.forms.specs.declared.records.Record.{Record}

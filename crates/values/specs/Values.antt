@@ -1,9 +1,9 @@
 -- A value's number and its characters, and what is permitted (01 'Telegram forms', 'Values'). Assumes nothing.
 use Prim.Native.Nat.{ℕ, zero, suc, _+_, _-_}
-use mathlib.Core.Bool.{Bool, true, false, cond}
-use mathlib.Core.List.{List, [], _∷_, _++_}
+use mathlib.Core.Bool.{Bool, true, cond}
+use mathlib.Core.List.{List, [], _∷_}
 use lib.Dec.{eqb}
-use lib.ListN.{length, getD, drop, take}
+use lib.ListN.{length, getD, drop}
 use Rattle.laws.specs.Truth.{both}
 use Rattle.laws.specs.Numerals.{numeral, leftOf, numberOn}
 use Rattle.forms.specs.Forms.{Slot, slotsOf, widthOf, formOf}

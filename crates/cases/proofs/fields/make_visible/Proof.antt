@@ -1,13 +1,11 @@
+-- `cases::fields::make_visible` meets its contract. Assumes nothing.
 use mathlib.Core.Path.{_≡_, refl}
-use lib.ListN.{length, length-set}
+use lib.ListN.{length}
 use borrow.Author.Needs.{needs}
-use Prim.Native.Nat.{ℕ, _≤_, _<_, _-_}
+use Prim.Native.Nat.{_≤_, _-_}
 use native.Mathlib.Omega.{arith}
 use Rattle.cases.proofs.fields.make_visible.Statement.{statement}
 use Rattle.cases.proofs.fields.make_visible.Tie as tie
-use Rattle.cases.proofs.fields.make_visible.Reads as reads
-use Rattle.cases.proofs.fields.make_visible.Lts as lts
-use Rattle.cases.proofs.fields.shown.Reads as shown-reads
 
 abbrev Inv-loop : tie.InvT-loop
 Inv-loop out₀ i₀ i-end out i = (i ≤ length out₀) × (length out ≡ length out₀) × (i-end ≡ length out₀)
@@ -15,39 +13,30 @@ Inv-loop out₀ i₀ i-end out i = (i ≤ length out₀) × (length out ≡ leng
 abbrev μ-loop : tie.MeasureT-loop
 μ-loop out₀ i₀ i-end out i = length out₀ - i
 
--- src/fields.rt:71:5
 loop-holds : tie.Need-loop-holds Inv-loop μ-loop
 loop-holds c = (omega arith, refl, refl)
 
--- src/fields.rt:72:24
 slice-read-shown : tie.Need-slice-read-shown Inv-loop μ-loop
 slice-read-shown c = search needs
 
--- src/fields.rt:72:18
 shown-requires : tie.Need-shown-requires Inv-loop μ-loop
 shown-requires c κs = search needs
 
--- src/fields.rt:72:9
 slice-write-out : tie.Need-slice-write-out Inv-loop μ-loop
 slice-write-out c = search needs
 
--- src/fields.rt:71:9
 add-i : tie.Need-add-i Inv-loop μ-loop
 add-i c = search needs
 
--- src/fields.rt:71:5
 loop-less : tie.Need-loop-less Inv-loop μ-loop
 loop-less c = search needs
 
--- src/fields.rt:71:5
 loop-again : tie.Need-loop-again Inv-loop μ-loop
 loop-again c = search needs
 
--- src/fields.rt:70:1
 same-length : tie.Need-same-length Inv-loop μ-loop
 same-length c = search needs
 
--- src/fields.rt:70:1
 returns : tie.Need-returns Inv-loop μ-loop
 returns c = search needs
 

@@ -1,14 +1,11 @@
+-- `cases::fields::means` meets its contract. Assumes nothing.
 use mathlib.Core.Path.{_≡_, refl}
-use lib.ListN.{length, length-set}
+use lib.ListN.{length}
 use borrow.Author.Needs.{needs}
-use Prim.Native.Nat.{ℕ, _≤_, _<_, _-_}
+use Prim.Native.Nat.{_≤_, _-_}
 use native.Mathlib.Omega.{arith}
 use Rattle.cases.proofs.fields.means.Statement.{statement}
 use Rattle.cases.proofs.fields.means.Tie as tie
-use Rattle.cases.proofs.fields.means.Reads as reads
-use Rattle.cases.proofs.fields.means.Lts as lts
-use Rattle.cases.proofs.fields.meant.Reads as meant-reads
-use Rattle.forms.proofs.slices.byte_at.Reads as byte-at-reads
 
 abbrev Inv-loop : tie.InvT-loop
 Inv-loop text out₀ i₀ i-end out i = (i ≤ length out₀) × (length out ≡ length out₀) × (i-end ≡ length out₀)
@@ -16,39 +13,30 @@ Inv-loop text out₀ i₀ i-end out i = (i ≤ length out₀) × (length out ≡
 abbrev μ-loop : tie.MeasureT-loop
 μ-loop text out₀ i₀ i-end out i = length out₀ - i
 
--- src/fields.rt:56:5
 loop-holds : tie.Need-loop-holds Inv-loop μ-loop
 loop-holds c = (omega arith, refl, refl)
 
--- src/fields.rt:57:24
 byte-at-requires : tie.Need-byte-at-requires Inv-loop μ-loop
 byte-at-requires c κs = search needs
 
--- src/fields.rt:57:18
 meant-requires : tie.Need-meant-requires Inv-loop μ-loop
 meant-requires c κs = search needs
 
--- src/fields.rt:57:9
 slice-write-out : tie.Need-slice-write-out Inv-loop μ-loop
 slice-write-out c = search needs
 
--- src/fields.rt:56:9
 add-i : tie.Need-add-i Inv-loop μ-loop
 add-i c = search needs
 
--- src/fields.rt:56:5
 loop-less : tie.Need-loop-less Inv-loop μ-loop
 loop-less c = search needs
 
--- src/fields.rt:56:5
 loop-again : tie.Need-loop-again Inv-loop μ-loop
 loop-again c = search needs
 
--- src/fields.rt:55:1
 same-length : tie.Need-same-length Inv-loop μ-loop
 same-length c = search needs
 
--- src/fields.rt:55:1
 returns : tie.Need-returns Inv-loop μ-loop
 returns c = search needs
 

@@ -1,3 +1,4 @@
+-- `forms::characters::in_set` meets its contract. Assumes nothing.
 use Rattle.forms.proofs.Codes.{high}
 use Rattle.laws.proofs.Listed.{listed-at}
 use Rattle.forms.specs.Characters.{inSet}
@@ -5,19 +6,14 @@ use mathlib.Core.Bool.{false}
 use borrow.Author.Needs.{needs}
 use Rattle.forms.proofs.characters.in_set.Statement.{statement}
 use Rattle.forms.proofs.characters.in_set.Tie as tie
-use Rattle.forms.proofs.characters.in_set.Reads as reads
-use Rattle.forms.proofs.characters.in_set.Lts as lts
 
--- src/characters.rt:140:18
 array-read-result : tie.Need-array-read-result
 array-read-result c = search needs
 
--- src/characters.rt:137:1
 returns : tie.Need-returns
 unfolding inSet
 returns c = listed-at false inSet 128 (c .before .args .b) (c .if1 .taken)
 
--- src/characters.rt:137:1
 returns-2 : tie.Need-returns-2
 returns-2 c = high (c .before .args .b) (c .if1 .left)
 

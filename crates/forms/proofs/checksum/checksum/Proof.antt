@@ -1,3 +1,4 @@
+-- `forms::checksum::checksum` meets its contract. Assumes nothing.
 use Rattle.forms.specs.Checksum.{total, checksumOf}
 use mathlib.Core.List.{List}
 use lib.Seq.{drop-cons, drop-length}
@@ -6,12 +7,10 @@ use native.Mathlib.Nat.{zero-add}
 use native.Mathlib.Numerals.{add-one}
 use native.Mathlib.Omega.{arith}
 use Prim.Native.Nat.{ℕ, _≤_, _<_, _+_, _-_, _%_}
-use mathlib.Core.Path.{_≡_, refl, sym, ap, _∙_}
+use mathlib.Core.Path.{_≡_, refl}
 use borrow.Author.Needs.{needs}
 use Rattle.forms.proofs.checksum.checksum.Statement.{statement}
 use Rattle.forms.proofs.checksum.checksum.Tie as tie
-use Rattle.forms.proofs.checksum.checksum.Reads as reads
-use Rattle.forms.proofs.checksum.checksum.Lts as lts
 
 step : (s : List ℕ) (i : ℕ) → i < length s → total (drop i s) ≡ getD s i 0 + total (drop (i + 1) s)
 unfolding total
@@ -23,43 +22,33 @@ Inv-loop s sum₀ i₀ i-end sum i = (i ≤ length s) × (sum < 256) × (i-end �
 abbrev μ-loop : tie.MeasureT-loop
 μ-loop s sum₀ i₀ i-end sum i = length s - i
 
--- src/checksum.rt:10:5
 loop-holds : tie.Need-loop-holds Inv-loop μ-loop
 loop-holds c = (omega arith, omega arith, refl, rw zero-add)
 
--- src/checksum.rt:11:22
 shared-slice-read-sum : tie.Need-shared-slice-read-sum Inv-loop μ-loop
 shared-slice-read-sum c = omega arith
 
--- src/checksum.rt:11:22
 cast-sum : tie.Need-cast-sum Inv-loop μ-loop
 cast-sum c = omega (arith, c .shared-slice-known .given (c .before .before .loop .i))
 
--- src/checksum.rt:11:16
 add-sum : tie.Need-add-sum Inv-loop μ-loop
 add-sum c = omega (arith, c .shared-slice-known .given (c .before .before .loop .i))
 
--- src/checksum.rt:10:9
 add-i : tie.Need-add-i Inv-loop μ-loop
 add-i c = omega arith
 
--- src/checksum.rt:10:5
 loop-less : tie.Need-loop-less Inv-loop μ-loop
 loop-less c = omega arith
 
--- src/checksum.rt:10:5
 loop-again : tie.Need-loop-again Inv-loop μ-loop
 loop-again c = omega (arith, step (c .before .before .before .args .s .now) (c .before .before .loop .i) (search needs))
 
--- src/checksum.rt:13:7
 sub-result : tie.Need-sub-result Inv-loop μ-loop
 sub-result c = omega arith
 
--- src/checksum.rt:13:5
 cast-result : tie.Need-cast-result Inv-loop μ-loop
 cast-result c = omega arith
 
--- src/checksum.rt:6:1
 returns : tie.Need-returns Inv-loop μ-loop
 unfolding checksumOf total
 returns c =

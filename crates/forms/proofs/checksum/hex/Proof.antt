@@ -1,23 +1,18 @@
+-- `forms::checksum::hex` meets its contract. Assumes nothing.
 use Rattle.laws.proofs.Tests.{tests}
 use borrow.Author.Needs.{needs}
 use Rattle.forms.proofs.checksum.hex.Statement.{statement}
 use Rattle.forms.proofs.checksum.hex.Tie as tie
-use Rattle.forms.proofs.checksum.hex.Reads as reads
-use Rattle.forms.proofs.checksum.hex.Lts as lts
 
--- src/checksum.rt:21:21
 add-result : tie.Need-add-result
 add-result c = search needs
 
--- src/checksum.rt:21:43
 add-result-2 : tie.Need-add-result-2
 add-result-2 c = search needs
 
--- src/checksum.rt:17:1
 returns : tie.Need-returns
 returns c = search tests
 
--- src/checksum.rt:17:1
 returns-2 : tie.Need-returns-2
 returns-2 c = search tests
 

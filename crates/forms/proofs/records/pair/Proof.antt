@@ -1,30 +1,24 @@
+-- `forms::records::pair` meets its contract. Assumes nothing.
 use Rattle.forms.specs.Records.{paired}
 use Rattle.laws.proofs.Tests.{tests}
 use borrow.Author.Needs.{needs}
 use Rattle.forms.proofs.records.pair.Statement.{statement}
 use Rattle.forms.proofs.records.pair.Tie as tie
-use Rattle.forms.proofs.records.pair.Reads as reads
-use Rattle.forms.proofs.records.pair.Lts as lts
 
--- src/records.rt:84:20
 mul-result : tie.Need-mul-result
 mul-result c = search needs
 
--- src/records.rt:84:20
 add-result : tie.Need-add-result
 add-result c = search needs
 
--- src/records.rt:84:13
 returns : tie.Need-returns
 unfolding paired
 returns c = search tests
 
--- src/records.rt:79:1
 returns-2 : tie.Need-returns-2
 unfolding paired
 returns-2 c = search tests
 
--- src/records.rt:79:1
 returns-3 : tie.Need-returns-3
 unfolding paired
 returns-3 c = search tests

@@ -1,166 +1,128 @@
-use borrow.Author.Tests.{eq-eqb, ne-eqb, le-ltb, lt-ltb}
+-- `forms::records::record_of` meets its contract. Assumes nothing.
+use borrow.Author.Tests.{ne-eqb}
 use Rattle.forms.specs.Records.{recordOf}
 use borrow.Author.Needs.{needs}
 use Rattle.forms.proofs.records.record_of.Statement.{statement}
 use Rattle.forms.proofs.records.record_of.Tie as tie
-use Rattle.forms.proofs.records.record_of.Reads as reads
-use Rattle.forms.proofs.records.record_of.Lts as lts
-use Rattle.forms.proofs.records.radio_of.Reads as radio-of-reads
 
--- src/records.rt:163:34
 array-read-t7 : tie.Need-array-read-t7
 array-read-t7 c = search needs
 
--- src/records.rt:164:33
 array-read-t10 : tie.Need-array-read-t10
 array-read-t10 c = search needs
 
--- src/records.rt:165:32
 array-read-t13 : tie.Need-array-read-t13
 array-read-t13 c = search needs
 
--- src/records.rt:166:30
 array-read-t16 : tie.Need-array-read-t16
 array-read-t16 c = search needs
 
--- src/records.rt:167:30
 array-read-t19 : tie.Need-array-read-t19
 array-read-t19 c = search needs
 
--- src/records.rt:168:36
 array-read-t22 : tie.Need-array-read-t22
 array-read-t22 c = search needs
 
--- src/records.rt:169:31
 array-read-t25 : tie.Need-array-read-t25
 array-read-t25 c = search needs
 
--- src/records.rt:170:34
 array-read-t28 : tie.Need-array-read-t28
 array-read-t28 c = search needs
 
--- src/records.rt:171:31
 array-read-t31 : tie.Need-array-read-t31
 array-read-t31 c = search needs
 
--- src/records.rt:173:21
 array-read-t34 : tie.Need-array-read-t34
 array-read-t34 c = search needs
 
--- src/records.rt:174:22
 array-read-t37 : tie.Need-array-read-t37
 array-read-t37 c = search needs
 
--- src/records.rt:175:20
 array-read-t40 : tie.Need-array-read-t40
 array-read-t40 c = search needs
 
--- src/records.rt:176:24
 array-read-t43 : tie.Need-array-read-t43
 array-read-t43 c = search needs
 
--- src/records.rt:178:35
 radio-of-requires : tie.Need-radio-of-requires
 radio-of-requires c κs = search needs
 
--- src/records.rt:179:37
 radio-of-requires-2 : tie.Need-radio-of-requires-2
 radio-of-requires-2 c κs = search needs
 
--- src/records.rt:179:50
 array-read-t50 : tie.Need-array-read-t50
 array-read-t50 c = search needs
 
--- src/records.rt:181:20
 radio-of-requires-3 : tie.Need-radio-of-requires-3
 radio-of-requires-3 c κs = search needs
 
--- src/records.rt:182:22
 array-read-t55 : tie.Need-array-read-t55
 array-read-t55 c = search needs
 
--- src/records.rt:183:22
 array-read-t58 : tie.Need-array-read-t58
 array-read-t58 c = search needs
 
--- src/records.rt:184:19
 array-read-t61 : tie.Need-array-read-t61
 array-read-t61 c = search needs
 
--- src/records.rt:185:22
 array-read-t64 : tie.Need-array-read-t64
 array-read-t64 c = search needs
 
--- src/records.rt:187:31
 array-read-t67 : tie.Need-array-read-t67
 array-read-t67 c = search needs
 
--- src/records.rt:159:1
 returns : tie.Need-returns
 unfolding recordOf
 returns c = rw (c .match .keys1)
 
--- src/records.rt:159:1
 returns-2 : tie.Need-returns-2
 unfolding recordOf
 returns-2 c = rw (c .match .keys2)
 
--- src/records.rt:159:1
 returns-3 : tie.Need-returns-3
 unfolding recordOf
 returns-3 c = rw (c .match .keys3)
 
--- src/records.rt:159:1
 returns-4 : tie.Need-returns-4
 unfolding recordOf
 returns-4 c = rw (c .match .keys4)
 
--- src/records.rt:159:1
 returns-5 : tie.Need-returns-5
 unfolding recordOf
 returns-5 c = rw (c .match .keys5)
 
--- src/records.rt:159:1
 returns-6 : tie.Need-returns-6
 unfolding recordOf
 returns-6 c = rw (c .match .keys6)
 
--- src/records.rt:159:1
 returns-7 : tie.Need-returns-7
 unfolding recordOf
 returns-7 c = rw (c .match .keys7)
 
--- src/records.rt:159:1
 returns-8 : tie.Need-returns-8
 unfolding recordOf
 returns-8 c = rw (c .match .keys8)
 
--- src/records.rt:159:1
 returns-9 : tie.Need-returns-9
 unfolding recordOf
 returns-9 c = rw (c .match .keys9)
 
--- src/records.rt:159:1
 returns-10 : tie.Need-returns-10
 unfolding recordOf
 returns-10 c = rw (c .match .keys10)
 
--- src/records.rt:159:1
 returns-11 : tie.Need-returns-11
 unfolding recordOf
 returns-11 c = rw (c .before .match .keys11, c .radio-of .ensures)
 
--- src/records.rt:159:1
 returns-12 : tie.Need-returns-12
 unfolding recordOf
 returns-12 c = rw (c .before .match .keys12, c .radio-of2 .ensures)
 
--- src/records.rt:159:1
 returns-13 : tie.Need-returns-13
 unfolding recordOf
 returns-13 c = rw (c .before .match .keys13, c .radio-of3 .ensures)
 
--- src/records.rt:159:1
 returns-14 : tie.Need-returns-14
 unfolding recordOf
 returns-14 c = rw (ne-eqb _ _ (c .match .rest .0 .0 .0 .0 .0 .0 .0 .0 .0 .0 .0 .0 .1), ne-eqb _ _ (c .match .rest .0 .0 .0 .0 .0 .0 .0 .0 .0 .0 .0 .1), ne-eqb _ _ (c .match .rest .0 .0 .0 .0 .0 .0 .0 .0 .0 .0 .1), ne-eqb _ _ (c .match .rest .0 .0 .0 .0 .0 .0 .0 .0 .0 .1), ne-eqb _ _ (c .match .rest .0 .0 .0 .0 .0 .0 .0 .0 .1), ne-eqb _ _ (c .match .rest .0 .0 .0 .0 .0 .0 .0 .1), ne-eqb _ _ (c .match .rest .0 .0 .0 .0 .0 .0 .1), ne-eqb _ _ (c .match .rest .0 .0 .0 .0 .0 .1), ne-eqb _ _ (c .match .rest .0 .0 .0 .0 .1), ne-eqb _ _ (c .match .rest .0 .0 .0 .1), ne-eqb _ _ (c .match .rest .0 .0 .1), ne-eqb _ _ (c .match .rest .0 .1), ne-eqb _ _ (c .match .rest .1))

@@ -1,142 +1,107 @@
+-- `forms::refusals::place_of` meets its contract. Assumes nothing.
 use borrow.Author.Needs.{needs}
 use Rattle.forms.proofs.refusals.place_of.Statement.{statement}
 use Rattle.forms.proofs.refusals.place_of.Tie as tie
-use Rattle.forms.proofs.refusals.place_of.Reads as reads
-use Rattle.forms.proofs.refusals.place_of.Lts as lts
 
--- src/refusals.rt:55:27
 enum-told : tie.Need-enum-told
 enum-told c = search needs
 
--- src/refusals.rt:56:26
 enum-told-2 : tie.Need-enum-told-2
 enum-told-2 c = search needs
 
--- src/refusals.rt:57:29
 enum-told-3 : tie.Need-enum-told-3
 enum-told-3 c = search needs
 
--- src/refusals.rt:58:27
 enum-told-4 : tie.Need-enum-told-4
 enum-told-4 c = search needs
 
--- src/refusals.rt:59:24
 enum-known-refusal : tie.Need-enum-known-refusal
 enum-known-refusal c = search needs
 
--- src/refusals.rt:60:27
 enum-known-refusal-2 : tie.Need-enum-known-refusal-2
 enum-known-refusal-2 c = search needs
 
--- src/refusals.rt:61:28
 enum-told-5 : tie.Need-enum-told-5
 enum-told-5 c = search needs
 
--- src/refusals.rt:62:26
 enum-told-6 : tie.Need-enum-told-6
 enum-told-6 c = search needs
 
--- src/refusals.rt:63:28
 enum-known-refusal-3 : tie.Need-enum-known-refusal-3
 enum-known-refusal-3 c = search needs
 
--- src/refusals.rt:64:23
 enum-known-refusal-4 : tie.Need-enum-known-refusal-4
 enum-known-refusal-4 c = search needs
 
--- src/refusals.rt:65:24
 enum-known-refusal-5 : tie.Need-enum-known-refusal-5
 enum-known-refusal-5 c = search needs
 
--- src/refusals.rt:66:29
 enum-told-7 : tie.Need-enum-told-7
 enum-told-7 c = search needs
 
--- src/refusals.rt:67:27
 enum-told-8 : tie.Need-enum-told-8
 enum-told-8 c = search needs
 
--- src/refusals.rt:68:28
 enum-told-9 : tie.Need-enum-told-9
 enum-told-9 c = search needs
 
--- src/refusals.rt:69:27
 enum-told-10 : tie.Need-enum-told-10
 enum-told-10 c = search needs
 
--- src/refusals.rt:70:26
 enum-told-11 : tie.Need-enum-told-11
 enum-told-11 c = search needs
 
--- src/refusals.rt:71:26
 enum-told-12 : tie.Need-enum-told-12
 enum-told-12 c = search needs
 
--- src/refusals.rt:51:1
 returns : tie.Need-returns
 returns c = search needs
 
--- src/refusals.rt:51:1
 returns-2 : tie.Need-returns-2
 returns-2 c = search needs
 
--- src/refusals.rt:51:1
 returns-3 : tie.Need-returns-3
 returns-3 c = search needs
 
--- src/refusals.rt:51:1
 returns-4 : tie.Need-returns-4
 returns-4 c = search needs
 
--- src/refusals.rt:51:1
 returns-5 : tie.Need-returns-5
 returns-5 c = search needs
 
--- src/refusals.rt:51:1
 returns-6 : tie.Need-returns-6
 returns-6 c = search needs
 
--- src/refusals.rt:51:1
 returns-7 : tie.Need-returns-7
 returns-7 c = search needs
 
--- src/refusals.rt:51:1
 returns-8 : tie.Need-returns-8
 returns-8 c = search needs
 
--- src/refusals.rt:51:1
 returns-9 : tie.Need-returns-9
 returns-9 c = search needs
 
--- src/refusals.rt:51:1
 returns-10 : tie.Need-returns-10
 returns-10 c = search needs
 
--- src/refusals.rt:51:1
 returns-11 : tie.Need-returns-11
 returns-11 c = rw (c .before .refusal5 .given .1)
 
--- src/refusals.rt:51:1
 returns-12 : tie.Need-returns-12
 returns-12 c = search needs
 
--- src/refusals.rt:51:1
 returns-13 : tie.Need-returns-13
 returns-13 c = search needs
 
--- src/refusals.rt:51:1
 returns-14 : tie.Need-returns-14
 returns-14 c = search needs
 
--- src/refusals.rt:51:1
 returns-15 : tie.Need-returns-15
 returns-15 c = search needs
 
--- src/refusals.rt:51:1
 returns-16 : tie.Need-returns-16
 returns-16 c = search needs
 
--- src/refusals.rt:51:1
 returns-17 : tie.Need-returns-17
 returns-17 c = search needs
 

@@ -1,21 +1,17 @@
+-- `forms::slices::byte_at` meets its contract. Assumes nothing.
 use lib.ListN.{List·getD-eq-default}
 use denote.Ref.{now}
-use mathlib.Core.Path.{_≡_, refl, sym, ap, _∙_}
+use mathlib.Core.Path.{sym}
 use borrow.Author.Needs.{needs}
 use Rattle.forms.proofs.slices.byte_at.Statement.{statement}
 use Rattle.forms.proofs.slices.byte_at.Tie as tie
-use Rattle.forms.proofs.slices.byte_at.Reads as reads
-use Rattle.forms.proofs.slices.byte_at.Lts as lts
 
--- src/slices.rt:9:23
 shared-slice-read-result : tie.Need-shared-slice-read-result
 shared-slice-read-result c = search needs
 
--- src/slices.rt:6:1
 returns : tie.Need-returns
 returns c = search needs
 
--- src/slices.rt:6:1
 returns-2 : tie.Need-returns-2
 returns-2 c = sym (List·getD-eq-default (now (c .before .args .s)) 0 (c .if1 .left))
 

@@ -1,64 +1,49 @@
+-- `forms::slices::part` meets its contract. Assumes nothing.
 use Rattle.forms.proofs.Parts.{beyond, rest, inside}
 use denote.Ref.{now}
 use borrow.Author.Needs.{needs}
 use Rattle.forms.proofs.slices.part.Statement.{statement}
 use Rattle.forms.proofs.slices.part.Tie as tie
-use Rattle.forms.proofs.slices.part.Reads as reads
-use Rattle.forms.proofs.slices.part.Lts as lts
 
--- src/slices.rt:18:16
 sub-result : tie.Need-sub-result
 sub-result c = search needs
 
--- src/slices.rt:18:16
 part-result-start : tie.Need-part-result-start
 part-result-start c = search needs
 
--- src/slices.rt:18:16
 part-result-end : tie.Need-part-result-end
 part-result-end c = search needs
 
--- src/slices.rt:18:9
 returns : tie.Need-returns
 returns c = beyond (now (c .before .before .args .s)) (c .before .before .args .from) (c .before .before .args .count) (c .before .if1 .taken)
 
--- src/slices.rt:20:8
 sub-if2 : tie.Need-sub-if2
 sub-if2 c = search needs
 
--- src/slices.rt:21:16
 sub-result-2 : tie.Need-sub-result-2
 sub-result-2 c = search needs
 
--- src/slices.rt:21:16
 part-result-start-2 : tie.Need-part-result-start-2
 part-result-start-2 c = search needs
 
--- src/slices.rt:21:16
 part-result-end-2 : tie.Need-part-result-end-2
 part-result-end-2 c = search needs
 
--- src/slices.rt:21:9
 returns-2 : tie.Need-returns-2
 returns-2 c = rest (now (c .before .before .before .args .s)) (c .before .before .before .args .from) (c .before .before .before .args .count) (c .before .if2 .taken)
 
--- src/slices.rt:23:15
 add-end : tie.Need-add-end
 add-end c = search needs
 
--- src/slices.rt:24:5
 sub-result-3 : tie.Need-sub-result-3
 sub-result-3 c = search needs
 
--- src/slices.rt:24:5
 part-result-start-3 : tie.Need-part-result-start-3
 part-result-start-3 c = search needs
 
--- src/slices.rt:24:5
 part-result-end-3 : tie.Need-part-result-end-3
 part-result-end-3 c = search needs
 
--- src/slices.rt:13:1
 returns-3 : tie.Need-returns-3
 returns-3 c = inside (now (c .before .before .before .args .s)) (c .before .before .before .args .from) (c .before .before .before .args .count)
 

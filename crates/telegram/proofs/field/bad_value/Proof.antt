@@ -1,27 +1,19 @@
+-- `telegram::field::bad_value` meets its contract. Assumes nothing.
 use Rattle.telegram.proofs.Walk.{value-right, value-wrong}
 use Rattle.telegram.specs.Field.{badValue}
 use Rattle.values.specs.Values.{permitted}
-use lib.ListN.{getD}
-use mathlib.Core.List.{List}
+use lib.ListN.{getD, drop}
+use mathlib.Core.List.{List, []}
 use Rattle.forms.proofs.Slots.{count-small, slots-end}
 use Rattle.forms.specs.Forms.{slotsIn, slotsOf}
-use lib.ListN.{length, drop}
-use mathlib.Core.List.{[]}
-use borrow.Author.Tests.{eq-eqb, ne-eqb, le-ltb, lt-ltb}
-use Prim.Native.Nat.{ℕ, _≤_, _<_, _+_, _-_, _*_}
+use Prim.Native.Nat.{ℕ, _≤_, _+_, _-_, _*_}
 use native.Mathlib.Omega.{arith}
 use Rattle.laws.proofs.Truths.{not-true, not-false}
 use borrow.Author.Needs.{needs}
 use denote.Ref.{now}
-use mathlib.Core.Path.{_≡_, refl, sym, ap, _∙_}
+use mathlib.Core.Path.{_≡_, sym, ap, _∙_}
 use Rattle.telegram.proofs.field.bad_value.Statement.{statement}
 use Rattle.telegram.proofs.field.bad_value.Tie as tie
-use Rattle.telegram.proofs.field.bad_value.Reads as reads
-use Rattle.telegram.proofs.field.bad_value.Lts as lts
-use Rattle.forms.proofs.slices.part.Reads as part-reads
-use Rattle.forms.proofs.table.count_of.Reads as count-of-reads
-use Rattle.values.proofs.values.permits_text.Reads as permits-text-reads
-use Rattle.telegram.proofs.field.wide.Reads as wide-reads
 
 abbrev Inv-loop : tie.InvT-loop
 Inv-loop line kind field letters lens count at₀ j₀ at j = (count ≤ 10) × (j ≤ count) × (at ≤ 256 * j) × (badValue line kind (5 + at) (slotsIn (count - j) (drop j letters) (drop j lens)) (drop at field) ≡ badValue line kind 5 (slotsIn count letters lens) field)
@@ -29,70 +21,54 @@ Inv-loop line kind field letters lens count at₀ j₀ at j = (count ≤ 10) × 
 abbrev μ-loop : tie.MeasureT-loop
 μ-loop line kind field letters lens count at₀ j₀ at j = count - j
 
--- src/field.rt:73:9
 count-of-requires : tie.Need-count-of-requires Inv-loop μ-loop
 count-of-requires c κs = search needs
 
--- src/field.rt:76:5
 loop-holds : tie.Need-loop-holds Inv-loop μ-loop
 loop-holds c =
     let z : c .count-of .result - 0 ≡ c .count-of .result = omega arith in
     (omega (arith, c .count-of .ensures, count-small (c .before .before .before .before .args .form)), omega arith, omega arith, rw z)
 
--- src/field.rt:77:24
 array-read-wide : tie.Need-array-read-wide Inv-loop μ-loop
 array-read-wide c = search needs
 
--- src/field.rt:77:13
 wide-requires : tie.Need-wide-requires Inv-loop μ-loop
 wide-requires c κs = search needs
 
--- src/field.rt:78:38
 array-read-permits-text : tie.Need-array-read-permits-text Inv-loop μ-loop
 array-read-permits-text c = search needs
 
--- src/field.rt:78:62
 add-part : tie.Need-add-part Inv-loop μ-loop
 add-part c = omega arith
 
--- src/field.rt:78:50
 part-requires : tie.Need-part-requires Inv-loop μ-loop
 part-requires c κs = search needs
 
--- src/field.rt:78:13
 permits-text-requires : tie.Need-permits-text-requires Inv-loop μ-loop
 permits-text-requires c κs = search needs
 
--- src/field.rt:79:29
 add-t20 : tie.Need-add-t20 Inv-loop μ-loop
 add-t20 c = omega arith
 
--- src/field.rt:79:13
 returns : tie.Need-returns Inv-loop μ-loop
 unfolding slotsOf
 returns c = sym (value-wrong (c .before .before .before .before .before .before .before .before .before .before .args .form .letters) (c .before .before .before .before .before .before .before .before .before .before .args .form .lens) (now (c .before .before .before .before .before .before .before .before .before .before .args .field)) (c .before .before .before .before .before .before .count-of .result) (c .before .before .before .before .before .loop .j) (c .before .before .before .before .before .loop .at) (c .before .before .before .before .loop-test .taken) (c .before .before .before .before .before .before .before .before .before .before .args .line) (c .before .before .before .before .before .before .before .before .before .before .args .kind) (c .before .before .before .wide .result) (c .before .before .before .wide .ensures .0) (sym (c .before .permits-text .ensures ∙ ap (λ (x : List ℕ). permitted (c .before .before .before .before .before .before .before .before .before .before .args .line) (c .before .before .before .before .before .before .before .before .before .before .args .kind) (getD (c .before .before .before .before .before .before .before .before .before .before .args .form .letters) (c .before .before .before .before .before .loop .j) 0) x) (c .before .before .part .ensures)) ∙ not-true _ (c .if1 .taken))) ∙ c .before .before .before .before .before .loop .inv .3 ∙ rw (c .before .before .before .before .before .before .count-of .ensures)
 
--- src/field.rt:81:20
 add-at : tie.Need-add-at Inv-loop μ-loop
 add-at c = omega arith
 
--- src/field.rt:81:14
 add-at-2 : tie.Need-add-at-2 Inv-loop μ-loop
 add-at-2 c = omega arith
 
--- src/field.rt:82:13
 add-j : tie.Need-add-j Inv-loop μ-loop
 add-j c = search needs
 
--- src/field.rt:76:5
 loop-less : tie.Need-loop-less Inv-loop μ-loop
 loop-less c = search needs
 
--- src/field.rt:76:5
 loop-again : tie.Need-loop-again Inv-loop μ-loop
 loop-again c = (c .before .before .before .before .before .loop .inv .0, omega arith, omega arith, sym (value-right (c .before .before .before .before .before .before .before .before .before .before .args .form .letters) (c .before .before .before .before .before .before .before .before .before .before .args .form .lens) (now (c .before .before .before .before .before .before .before .before .before .before .args .field)) (c .before .before .before .before .before .before .count-of .result) (c .before .before .before .before .before .loop .j) (c .before .before .before .before .before .loop .at) (c .before .before .before .before .loop-test .taken) (c .before .before .before .before .before .before .before .before .before .before .args .line) (c .before .before .before .before .before .before .before .before .before .before .args .kind) (c .before .before .before .wide .result) (c .before .before .before .wide .ensures .0) (sym (c .before .permits-text .ensures ∙ ap (λ (x : List ℕ). permitted (c .before .before .before .before .before .before .before .before .before .before .args .line) (c .before .before .before .before .before .before .before .before .before .before .args .kind) (getD (c .before .before .before .before .before .before .before .before .before .before .args .form .letters) (c .before .before .before .before .before .loop .j) 0) x) (c .before .before .part .ensures)) ∙ not-false _ (c .if1 .left))) ∙ c .before .before .before .before .before .loop .inv .3)
 
--- src/field.rt:68:1
 returns-2 : tie.Need-returns-2 Inv-loop μ-loop
 unfolding slotsOf badValue
 returns-2 c =

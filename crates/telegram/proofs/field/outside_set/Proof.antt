@@ -1,18 +1,16 @@
+-- `telegram::field::outside_set` meets its contract. Assumes nothing.
 use Rattle.telegram.proofs.Walk.{byte-in, byte-out}
 use Rattle.telegram.specs.Field.{outside}
 use lib.Seq.{drop-length}
 use lib.ListN.{length, drop}
-use Prim.Native.Nat.{ℕ, _≤_, _<_, _+_, _-_, _*_}
+use Prim.Native.Nat.{_≤_, _+_, _-_}
 use native.Mathlib.Omega.{arith}
 use Rattle.laws.proofs.Truths.{not-true, not-false}
 use borrow.Author.Needs.{needs}
 use denote.Ref.{now}
-use mathlib.Core.Path.{_≡_, refl, sym, ap, _∙_}
+use mathlib.Core.Path.{_≡_, refl, sym, _∙_}
 use Rattle.telegram.proofs.field.outside_set.Statement.{statement}
 use Rattle.telegram.proofs.field.outside_set.Tie as tie
-use Rattle.telegram.proofs.field.outside_set.Reads as reads
-use Rattle.telegram.proofs.field.outside_set.Lts as lts
-use Rattle.forms.proofs.characters.in_set.Reads as in-set-reads
 
 abbrev Inv-loop : tie.InvT-loop
 Inv-loop field i₀ i = (i ≤ length field) × (outside (5 + i) (drop i field) ≡ outside 5 field)
@@ -20,39 +18,30 @@ Inv-loop field i₀ i = (i ≤ length field) × (outside (5 + i) (drop i field) 
 abbrev μ-loop : tie.MeasureT-loop
 μ-loop field i₀ i = length field - i
 
--- src/field.rt:28:5
 loop-holds : tie.Need-loop-holds Inv-loop μ-loop
 loop-holds c = (omega arith, refl)
 
--- src/field.rt:29:20
 shared-slice-read-in-set : tie.Need-shared-slice-read-in-set Inv-loop μ-loop
 shared-slice-read-in-set c = search needs
 
--- src/field.rt:29:13
 in-set-requires : tie.Need-in-set-requires Inv-loop μ-loop
 in-set-requires c κs = search needs
 
--- src/field.rt:30:29
 add-t8 : tie.Need-add-t8 Inv-loop μ-loop
 add-t8 c = search needs
 
--- src/field.rt:30:13
 returns : tie.Need-returns Inv-loop μ-loop
 returns c = sym (byte-out (now (c .before .before .before .before .before .before .args .field)) (c .before .before .before .before .loop .i) (c .before .before .before .loop-test .taken) (sym (c .before .in-set .ensures) ∙ not-true _ (c .if1 .taken))) ∙ c .before .before .before .before .loop .inv .1
 
--- src/field.rt:32:13
 add-i : tie.Need-add-i Inv-loop μ-loop
 add-i c = search needs
 
--- src/field.rt:28:5
 loop-less : tie.Need-loop-less Inv-loop μ-loop
 loop-less c = search needs
 
--- src/field.rt:28:5
 loop-again : tie.Need-loop-again Inv-loop μ-loop
 loop-again c = (omega arith, sym (byte-in (now (c .before .before .before .before .before .before .args .field)) (c .before .before .before .before .loop .i) (c .before .before .before .loop-test .taken) (sym (c .before .in-set .ensures) ∙ not-false _ (c .if1 .left))) ∙ c .before .before .before .before .loop .inv .1)
 
--- src/field.rt:24:1
 returns-2 : tie.Need-returns-2 Inv-loop μ-loop
 unfolding outside
 returns-2 c =

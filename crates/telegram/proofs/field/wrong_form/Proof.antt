@@ -1,27 +1,20 @@
+-- `telegram::field::wrong_form` meets its contract. Assumes nothing.
 use Rattle.telegram.specs.Field.{misshapen}
-use borrow.Author.Tests.{eq-eqb, ne-eqb, le-ltb, lt-ltb}
+use borrow.Author.Tests.{eq-eqb, ne-eqb}
 use borrow.Author.Needs.{needs}
 use Rattle.telegram.proofs.field.wrong_form.Statement.{statement}
 use Rattle.telegram.proofs.field.wrong_form.Tie as tie
-use Rattle.telegram.proofs.field.wrong_form.Reads as reads
-use Rattle.telegram.proofs.field.wrong_form.Lts as lts
-use Rattle.forms.proofs.table.width_of.Reads as width-of-reads
-use Rattle.telegram.proofs.field.wrong_letter.Reads as wrong-letter-reads
 
--- src/field.rt:60:23
 width-of-requires : tie.Need-width-of-requires
 width-of-requires c κs = search needs
 
--- src/field.rt:61:9
 wrong-letter-requires : tie.Need-wrong-letter-requires
 wrong-letter-requires c κs = search needs
 
--- src/field.rt:57:1
 returns : tie.Need-returns
 unfolding misshapen
 returns c = rw (← (c .before .before .width-of .ensures .0), eq-eqb _ _ (c .before .if1 .taken)) (c .wrong-letter .ensures)
 
--- src/field.rt:57:1
 returns-2 : tie.Need-returns-2
 unfolding misshapen
 returns-2 c = rw (← (c .before .width-of .ensures .0), ne-eqb _ _ (c .if1 .left))

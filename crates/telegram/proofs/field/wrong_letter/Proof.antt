@@ -1,23 +1,17 @@
+-- `telegram::field::wrong_letter` meets its contract. Assumes nothing.
 use Rattle.telegram.proofs.Walk.{letter-right, letter-wrong}
 use Rattle.telegram.specs.Field.{wrongLetter}
 use Rattle.forms.proofs.Slots.{count-small, slots-end}
 use Rattle.forms.specs.Forms.{slotsIn, slotsOf}
-use lib.ListN.{length, drop}
+use lib.ListN.{drop}
 use mathlib.Core.List.{[]}
-use borrow.Author.Tests.{eq-eqb, ne-eqb, le-ltb, lt-ltb}
-use Prim.Native.Nat.{ℕ, _≤_, _<_, _+_, _-_, _*_}
+use Prim.Native.Nat.{_≤_, _+_, _-_, _*_}
 use native.Mathlib.Omega.{arith}
-use Rattle.laws.proofs.Truths.{not-true, not-false}
 use borrow.Author.Needs.{needs}
 use denote.Ref.{now}
-use mathlib.Core.Path.{_≡_, refl, sym, ap, _∙_}
+use mathlib.Core.Path.{_≡_, sym, _∙_}
 use Rattle.telegram.proofs.field.wrong_letter.Statement.{statement}
 use Rattle.telegram.proofs.field.wrong_letter.Tie as tie
-use Rattle.telegram.proofs.field.wrong_letter.Reads as reads
-use Rattle.telegram.proofs.field.wrong_letter.Lts as lts
-use Rattle.forms.proofs.slices.byte_at.Reads as byte-at-reads
-use Rattle.forms.proofs.table.count_of.Reads as count-of-reads
-use Rattle.telegram.proofs.field.wide.Reads as wide-reads
 
 abbrev Inv-loop : tie.InvT-loop
 Inv-loop field letters lens count at₀ j₀ at j = (count ≤ 10) × (j ≤ count) × (at ≤ 256 * j) × (wrongLetter (5 + at) (slotsIn (count - j) (drop j letters) (drop j lens)) (drop at field) ≡ wrongLetter 5 (slotsIn count letters lens) field)
@@ -25,62 +19,48 @@ Inv-loop field letters lens count at₀ j₀ at j = (count ≤ 10) × (j ≤ cou
 abbrev μ-loop : tie.MeasureT-loop
 μ-loop field letters lens count at₀ j₀ at j = count - j
 
--- src/field.rt:43:9
 count-of-requires : tie.Need-count-of-requires Inv-loop μ-loop
 count-of-requires c κs = search needs
 
--- src/field.rt:46:5
 loop-holds : tie.Need-loop-holds Inv-loop μ-loop
 loop-holds c =
     let z : c .count-of .result - 0 ≡ c .count-of .result = omega arith in
     (omega (arith, c .count-of .ensures, count-small (c .before .before .before .before .args .form)), omega arith, omega arith, rw z)
 
--- src/field.rt:47:12
 byte-at-requires : tie.Need-byte-at-requires Inv-loop μ-loop
 byte-at-requires c κs = search needs
 
--- src/field.rt:47:34
 array-read-if1 : tie.Need-array-read-if1 Inv-loop μ-loop
 array-read-if1 c = search needs
 
--- src/field.rt:48:29
 add-t13 : tie.Need-add-t13 Inv-loop μ-loop
 add-t13 c = omega arith
 
--- src/field.rt:48:13
 returns : tie.Need-returns Inv-loop μ-loop
 unfolding slotsOf
 returns c = sym (letter-wrong (c .before .before .before .before .before .before .before .before .args .form .letters) (c .before .before .before .before .before .before .before .before .args .form .lens) (now (c .before .before .before .before .before .before .before .before .args .field)) (c .before .before .before .before .count-of .result) (c .before .before .before .loop .j) (c .before .before .before .loop .at) (c .before .before .loop-test .taken) (λ e. c .if1 .taken (c .before .byte-at .ensures ∙ e))) ∙ c .before .before .before .loop .inv .3 ∙ rw (c .before .before .before .before .count-of .ensures)
 
--- src/field.rt:50:29
 array-read-wide : tie.Need-array-read-wide Inv-loop μ-loop
 array-read-wide c = search needs
 
--- src/field.rt:50:24
 wide-requires : tie.Need-wide-requires Inv-loop μ-loop
 wide-requires c κs = search needs
 
--- src/field.rt:50:20
 add-at : tie.Need-add-at Inv-loop μ-loop
 add-at c = omega arith
 
--- src/field.rt:50:14
 add-at-2 : tie.Need-add-at-2 Inv-loop μ-loop
 add-at-2 c = omega arith
 
--- src/field.rt:51:13
 add-j : tie.Need-add-j Inv-loop μ-loop
 add-j c = search needs
 
--- src/field.rt:46:5
 loop-less : tie.Need-loop-less Inv-loop μ-loop
 loop-less c = search needs
 
--- src/field.rt:46:5
 loop-again : tie.Need-loop-again Inv-loop μ-loop
 loop-again c = (c .before .before .before .before .loop .inv .0, omega arith, omega arith, sym (letter-right (c .before .before .before .before .before .before .before .before .before .args .form .letters) (c .before .before .before .before .before .before .before .before .before .args .form .lens) (now (c .before .before .before .before .before .before .before .before .before .args .field)) (c .before .before .before .before .before .count-of .result) (c .before .before .before .before .loop .j) (c .before .before .before .before .loop .at) (c .before .before .before .loop-test .taken) (c .wide .result) (c .wide .ensures .0) (sym (c .before .before .byte-at .ensures) ∙ c .before .if1 .left)) ∙ c .before .before .before .before .loop .inv .3)
 
--- src/field.rt:38:1
 returns-2 : tie.Need-returns-2 Inv-loop μ-loop
 unfolding slotsOf wrongLetter
 returns-2 c =

@@ -1,92 +1,69 @@
+-- `telegram::frame::end_check` meets its contract. Assumes nothing.
 use Rattle.telegram.proofs.Framing.{sum-two, no-end, bad-sum, good-number, bad-number}
 use Rattle.telegram.specs.Frame.{isTwo, summedOf}
 use Rattle.forms.specs.Checksum.{checkText, checksumOf}
 use lib.ListN.{length}
 use Prim.Native.Nat.{ℕ, _-_}
 use mathlib.Core.List.{List}
-use borrow.Author.Tests.{eq-eqb, ne-eqb, le-ltb, lt-ltb}
+use borrow.Author.Tests.{ne-eqb}
 use Rattle.laws.proofs.Truths.{not-true, not-false}
 use denote.Ref.{now}
-use mathlib.Core.Path.{_≡_, refl, sym, ap, _∙_}
+use mathlib.Core.Path.{sym, ap, _∙_}
 use borrow.Author.Needs.{needs}
 use Rattle.telegram.proofs.frame.end_check.Statement.{statement}
 use Rattle.telegram.proofs.frame.end_check.Tie as tie
-use Rattle.telegram.proofs.frame.end_check.Reads as reads
-use Rattle.telegram.proofs.frame.end_check.Lts as lts
-use Rattle.forms.proofs.checksum.checksum.Reads as checksum-reads
-use Rattle.forms.proofs.checksum.hex.Reads as hex-reads
-use Rattle.forms.proofs.slices.byte_at.Reads as byte-at-reads
-use Rattle.forms.proofs.slices.part.Reads as part-reads
-use Rattle.telegram.proofs.frame.is_two.Reads as is-two-reads
 
--- src/frame.rt:49:19
 sub-byte-at : tie.Need-sub-byte-at
 sub-byte-at c = search needs
 
--- src/frame.rt:49:8
 byte-at-requires : tie.Need-byte-at-requires
 byte-at-requires c κs = search needs
 
--- src/frame.rt:50:44
 sub-t8 : tie.Need-sub-t8
 sub-t8 c = search needs
 
--- src/frame.rt:50:9
 returns : tie.Need-returns
 returns c = no-end (now (c .before .before .before .args .s)) (λ e. c .if1 .taken (c .before .byte-at .ensures ∙ e))
 
--- src/frame.rt:52:35
 sub-part : tie.Need-sub-part
 sub-part c = search needs
 
--- src/frame.rt:52:24
 part-requires : tie.Need-part-requires
 part-requires c κs = search needs
 
--- src/frame.rt:52:9
 checksum-requires : tie.Need-checksum-requires
 checksum-requires c κs = search needs
 
--- src/frame.rt:53:19
 sub-is-two : tie.Need-sub-is-two
 sub-is-two c = search needs
 
--- src/frame.rt:53:26
 hex-requires : tie.Need-hex-requires
 hex-requires c κs = search needs
 
--- src/frame.rt:53:41
 hex-requires-2 : tie.Need-hex-requires-2
 hex-requires-2 c κs = search needs
 
--- src/frame.rt:53:9
 is-two-requires : tie.Need-is-two-requires
 is-two-requires c κs = search needs
 
--- src/frame.rt:54:47
 sub-t14 : tie.Need-sub-t14
 sub-t14 c = search needs
 
--- src/frame.rt:54:9
 returns-2 : tie.Need-returns-2
 unfolding summedOf
 returns-2 c = bad-sum (now (c .before .before .before .before .before .before .before .before .before .args .s)) (sym (c .before .before .before .before .before .before .before .byte-at .ensures) ∙ c .before .before .before .before .before .before .if1 .left) (sym (c .before .is-two .ensures ∙ ap (λ (x : List ℕ). isTwo (now (c .before .before .before .before .before .before .before .before .before .args .s)) (length (now (c .before .before .before .before .before .before .before .before .before .args .s)) - 3) x) (sum-two _ _ _ (c .before .before .before .hex .ensures) (c .before .before .hex2 .ensures) ∙ ap checkText (c .before .before .before .before .checksum .ensures ∙ ap checksumOf (c .before .before .before .before .before .part .ensures)))) ∙ not-true _ (c .if2 .taken))
 
--- src/frame.rt:56:9
 byte-at-requires-2 : tie.Need-byte-at-requires-2
 byte-at-requires-2 c κs = search needs
 
--- src/frame.rt:44:1
 returns-3 : tie.Need-returns-3
 unfolding summedOf
 returns-3 c = good-number (now (c .before .before .before .before .before .before .before .before .before .before .before .args .s)) (sym (c .before .before .before .before .before .before .before .before .before .byte-at .ensures) ∙ c .before .before .before .before .before .before .before .before .if1 .left) (sym (c .before .before .before .is-two .ensures ∙ ap (λ (x : List ℕ). isTwo (now (c .before .before .before .before .before .before .before .before .before .before .before .args .s)) (length (now (c .before .before .before .before .before .before .before .before .before .before .before .args .s)) - 3) x) (sum-two _ _ _ (c .before .before .before .before .before .hex .ensures) (c .before .before .before .before .hex2 .ensures) ∙ ap checkText (c .before .before .before .before .before .before .checksum .ensures ∙ ap checksumOf (c .before .before .before .before .before .before .before .part .ensures)))) ∙ not-false _ (c .before .before .if2 .left)) (rw (← (c .before .byte-at2 .ensures), c .match .keys1))
 
--- src/frame.rt:44:1
 returns-4 : tie.Need-returns-4
 unfolding summedOf
 returns-4 c = good-number (now (c .before .before .before .before .before .before .before .before .before .before .before .args .s)) (sym (c .before .before .before .before .before .before .before .before .before .byte-at .ensures) ∙ c .before .before .before .before .before .before .before .before .if1 .left) (sym (c .before .before .before .is-two .ensures ∙ ap (λ (x : List ℕ). isTwo (now (c .before .before .before .before .before .before .before .before .before .before .before .args .s)) (length (now (c .before .before .before .before .before .before .before .before .before .before .before .args .s)) - 3) x) (sum-two _ _ _ (c .before .before .before .before .before .hex .ensures) (c .before .before .before .before .hex2 .ensures) ∙ ap checkText (c .before .before .before .before .before .before .checksum .ensures ∙ ap checksumOf (c .before .before .before .before .before .before .before .part .ensures)))) ∙ not-false _ (c .before .before .if2 .left)) (rw (← (c .before .byte-at2 .ensures), c .match .keys2))
 
--- src/frame.rt:44:1
 returns-5 : tie.Need-returns-5
 unfolding summedOf
 returns-5 c = bad-number (now (c .before .before .before .before .before .before .before .before .before .before .before .args .s)) (sym (c .before .before .before .before .before .before .before .before .before .byte-at .ensures) ∙ c .before .before .before .before .before .before .before .before .if1 .left) (sym (c .before .before .before .is-two .ensures ∙ ap (λ (x : List ℕ). isTwo (now (c .before .before .before .before .before .before .before .before .before .before .before .args .s)) (length (now (c .before .before .before .before .before .before .before .before .before .before .before .args .s)) - 3) x) (sum-two _ _ _ (c .before .before .before .before .before .hex .ensures) (c .before .before .before .before .hex2 .ensures) ∙ ap checkText (c .before .before .before .before .before .before .checksum .ensures ∙ ap checksumOf (c .before .before .before .before .before .before .before .part .ensures)))) ∙ not-false _ (c .before .before .if2 .left)) (rw (← (c .before .byte-at2 .ensures), ne-eqb _ _ (c .match .rest .0 .1), ne-eqb _ _ (c .match .rest .1)))

@@ -1,3 +1,4 @@
+-- `telegram::frame::frame_check` meets its contract. Assumes nothing.
 use Rattle.telegram.proofs.Framing.{count-two, short, long, no-start, bad-count, to-end}
 use Rattle.telegram.specs.Frame.{isTwo}
 use lib.ListN.{length}
@@ -5,55 +6,38 @@ use Prim.Native.Nat.{ℕ}
 use mathlib.Core.List.{List}
 use Rattle.laws.proofs.Truths.{not-true, not-false}
 use denote.Ref.{now}
-use mathlib.Core.Path.{_≡_, refl, sym, ap, _∙_}
+use mathlib.Core.Path.{sym, ap, _∙_}
 use borrow.Author.Needs.{needs}
 use Rattle.telegram.proofs.frame.frame_check.Statement.{statement}
 use Rattle.telegram.proofs.frame.frame_check.Tie as tie
-use Rattle.telegram.proofs.frame.frame_check.Reads as reads
-use Rattle.telegram.proofs.frame.frame_check.Lts as lts
-use Rattle.forms.proofs.slices.byte_at.Reads as byte-at-reads
-use Rattle.telegram.proofs.frame.count_high.Reads as count-high-reads
-use Rattle.telegram.proofs.frame.count_low.Reads as count-low-reads
-use Rattle.telegram.proofs.frame.end_check.Reads as end-check-reads
-use Rattle.telegram.proofs.frame.is_two.Reads as is-two-reads
 
--- src/frame.rt:70:9
 returns : tie.Need-returns
 returns c = short (now (c .before .before .args .s)) (c .if1 .taken)
 
--- src/frame.rt:73:9
 returns-2 : tie.Need-returns-2
 returns-2 c = long (now (c .before .before .before .args .s)) (c .before .if1 .left) (c .if2 .taken)
 
--- src/frame.rt:75:8
 byte-at-requires : tie.Need-byte-at-requires
 byte-at-requires c κs = search needs
 
--- src/frame.rt:76:9
 returns-3 : tie.Need-returns-3
 returns-3 c = no-start (now (c .before .before .before .before .before .args .s)) (c .before .before .before .if1 .left) (c .before .before .if2 .left) (λ e. c .if3 .taken (c .before .byte-at .ensures ∙ e))
 
--- src/frame.rt:78:22
 count-high-requires : tie.Need-count-high-requires
 count-high-requires c κs = search needs
 
--- src/frame.rt:78:37
 count-low-requires : tie.Need-count-low-requires
 count-low-requires c κs = search needs
 
--- src/frame.rt:78:9
 is-two-requires : tie.Need-is-two-requires
 is-two-requires c κs = search needs
 
--- src/frame.rt:79:9
 returns-4 : tie.Need-returns-4
 returns-4 c = bad-count (now (c .before .before .before .before .before .before .before .before .before .args .s)) (c .before .before .before .before .before .before .before .if1 .left) (c .before .before .before .before .before .before .if2 .left) (sym (c .before .before .before .before .before .byte-at .ensures) ∙ c .before .before .before .before .if3 .left) (sym (c .before .is-two .ensures ∙ ap (λ (x : List ℕ). isTwo (now (c .before .before .before .before .before .before .before .before .before .args .s)) 1 x) (count-two (length (now (c .before .before .before .before .before .before .before .before .before .args .s))) _ _ (c .before .before .before .count-high .ensures) (c .before .before .count-low .ensures))) ∙ not-true _ (c .if4 .taken))
 
--- src/frame.rt:81:5
 end-check-requires : tie.Need-end-check-requires
 end-check-requires c κs = search needs
 
--- src/frame.rt:65:1
 returns-5 : tie.Need-returns-5
 returns-5 c = c .end-check .ensures ∙ to-end (now (c .before .before .before .before .before .before .before .before .before .before .args .s)) (c .before .before .before .before .before .before .before .before .if1 .left) (c .before .before .before .before .before .before .before .if2 .left) (sym (c .before .before .before .before .before .before .byte-at .ensures) ∙ c .before .before .before .before .before .if3 .left) (sym (c .before .before .is-two .ensures ∙ ap (λ (x : List ℕ). isTwo (now (c .before .before .before .before .before .before .before .before .before .before .args .s)) 1 x) (count-two (length (now (c .before .before .before .before .before .before .before .before .before .before .args .s))) _ _ (c .before .before .before .before .count-high .ensures) (c .before .before .before .count-low .ensures))) ∙ not-false _ (c .before .if4 .left))
 

@@ -1,3 +1,4 @@
+-- `telegram::reading::contents` meets its contract. Assumes nothing.
 use Rattle.telegram.proofs.Narrow.{form-narrow}
 use Rattle.telegram.proofs.Contents.{strange-type, strange-byte, on-form}
 use Rattle.telegram.specs.Field.{outside}
@@ -7,49 +8,32 @@ use Prim.Native.Nat.{ℕ, _-_}
 use mathlib.Core.List.{List}
 use Rattle.laws.proofs.Truths.{not-true, not-false}
 use denote.Ref.{now}
-use mathlib.Core.Path.{_≡_, refl, sym, ap, _∙_}
+use mathlib.Core.Path.{sym, ap, _∙_}
 use borrow.Author.Needs.{needs}
 use Rattle.telegram.proofs.reading.contents.Statement.{statement}
 use Rattle.telegram.proofs.reading.contents.Tie as tie
-use Rattle.telegram.proofs.reading.contents.Reads as reads
-use Rattle.telegram.proofs.reading.contents.Lts as lts
-use Rattle.forms.proofs.slices.byte_at.Reads as byte-at-reads
-use Rattle.forms.proofs.slices.less.Reads as less-reads
-use Rattle.forms.proofs.slices.part.Reads as part-reads
-use Rattle.forms.proofs.table.form_of.Reads as form-of-reads
-use Rattle.telegram.proofs.field.outside_set.Reads as outside-set-reads
-use Rattle.telegram.proofs.reading.digit_of.Reads as digit-of-reads
-use Rattle.telegram.proofs.reading.in_form.Reads as in-form-reads
 
--- src/reading.rt:122:9
 byte-at-requires : tie.Need-byte-at-requires
 byte-at-requires c κs = search needs
 
--- src/reading.rt:123:9
 form-of-requires : tie.Need-form-of-requires
 form-of-requires c κs = search needs
 
--- src/reading.rt:125:9
 returns : tie.Need-returns
 returns c = strange-type (c .before .before .before .before .before .args .line) (now (c .before .before .before .before .before .args .s)) (c .before .before .before .byte-at .result) (c .before .before .form-of .result) (c .before .before .before .byte-at .ensures) (c .before .before .form-of .ensures) (not-true (c .before .before .form-of .result .found) (c .if1 .taken))
 
--- src/reading.rt:128:28
 less-requires : tie.Need-less-requires
 less-requires c κs = search needs
 
--- src/reading.rt:128:9
 part-requires : tie.Need-part-requires
 part-requires c κs = search needs
 
--- src/reading.rt:129:9
 outside-set-requires : tie.Need-outside-set-requires
 outside-set-requires c κs = search needs
 
--- src/reading.rt:130:21
 enum-known-strange : tie.Need-enum-known-strange
 enum-known-strange c = search needs
 
--- src/reading.rt:131:9
 returns-2 : tie.Need-returns-2
 unfolding fieldOf
 returns-2 c = strange-byte (c .before .before .before .before .before .before .before .before .before .before .before .before .args .line) (now (c .before .before .before .before .before .before .before .before .before .before .before .before .args .s)) (c .before .before .before .before .before .before .before .before .before .before .byte-at .result) (c .before .before .before .before .before .before .before .before .before .form-of .result) (c .before .before .before .before .before .before .before .before .before .before .byte-at .ensures) (c .before .before .before .before .before .before .before .before .before .form-of .ensures) (not-false (c .before .before .before .before .before .before .before .before .before .form-of .result .found) (c .before .before .before .before .before .before .before .if1 .left)) _ (sym (c .before .strange .given .1) ∙ c .before .before .before .outside-set .ensures ∙ ap (λ (d : List ℕ). outside 5 d) (c .before .before .before .before .part .ensures ∙ ap (λ (k : ℕ). take k (drop 5 (now (c .before .before .before .before .before .before .before .before .before .before .before .before .args .s)))) (c .before .before .before .before .before .less .ensures)))
@@ -57,19 +41,15 @@ returns-2 c = strange-byte (c .before .before .before .before .before .before .b
 enum-told : tie.Need-enum-told
 enum-told c = search needs
 
--- src/reading.rt:133:34
 byte-at-requires-2 : tie.Need-byte-at-requires-2
 byte-at-requires-2 c κs = search needs
 
--- src/reading.rt:133:25
 digit-of-requires : tie.Need-digit-of-requires
 digit-of-requires c κs = search needs
 
--- src/reading.rt:133:5
 in-form-requires : tie.Need-in-form-requires
 in-form-requires c κs = form-narrow (c .before .before .before .before .before .before .before .before .before .before .before .before .before .args .line) (c .before .before .before .before .before .before .before .before .before .before .before .byte-at .result) (c .before .before .before .before .before .before .before .before .before .before .form-of .result) (c .before .before .before .before .before .before .before .before .before .before .form-of .ensures) (not-false (c .before .before .before .before .before .before .before .before .before .before .form-of .result .found) (c .before .before .before .before .before .before .before .before .if1 .left))
 
--- src/reading.rt:119:1
 returns-3 : tie.Need-returns-3
 unfolding fieldOf
 returns-3 c = c .in-form .ensures ∙ on-form (c .before .before .before .before .before .before .before .before .before .before .before .before .before .before .args .line) (now (c .before .before .before .before .before .before .before .before .before .before .before .before .before .before .args .s)) (c .before .before .before .before .before .before .before .before .before .before .before .before .byte-at .result) (c .before .before .before .before .before .before .before .before .before .before .before .form-of .result) (c .before .before .before .before .before .before .before .before .before .before .before .before .byte-at .ensures) (c .before .before .before .before .before .before .before .before .before .before .before .form-of .ensures) (not-false (c .before .before .before .before .before .before .before .before .before .before .before .form-of .result .found) (c .before .before .before .before .before .before .before .before .before .if1 .left)) _ _ (sym (c .before .before .before .enum-told .given .1) ∙ c .before .before .before .before .before .outside-set .ensures ∙ ap (λ (d : List ℕ). outside 5 d) (c .before .before .before .before .before .before .part .ensures ∙ ap (λ (k : ℕ). take k (drop 5 (now (c .before .before .before .before .before .before .before .before .before .before .before .before .before .before .args .s)))) (c .before .before .before .before .before .before .before .less .ensures))) (c .before .before .before .before .before .before .part .ensures ∙ ap (λ (k : ℕ). take k (drop 5 (now (c .before .before .before .before .before .before .before .before .before .before .before .before .before .before .args .s)))) (c .before .before .before .before .before .before .before .less .ensures)) (c .before .digit-of .ensures ∙ ap (λ (k : ℕ). k - 48) (c .before .before .byte-at2 .ensures))

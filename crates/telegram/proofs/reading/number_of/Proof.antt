@@ -1,18 +1,15 @@
-use Rattle.telegram.proofs.Digits.{no-digit}
-use Rattle.telegram.proofs.Digits.{number-step, digit-more, few}
+-- `telegram::reading::number_of` meets its contract. Assumes nothing.
+use Rattle.telegram.proofs.Digits.{no-digit, number-step, digit-more, few}
 use Rattle.laws.specs.Numerals.{base, numberOn}
 use lib.Seq.{drop-length}
 use lib.ListN.{length, drop, getD}
-use Prim.Native.Nat.{ℕ, _≤_, _<_, _-_, _^_}
+use Prim.Native.Nat.{_≤_, _<_, _-_, _^_}
 use native.Mathlib.Omega.{arith}
 use borrow.Author.Needs.{needs}
 use denote.Ref.{now}
-use mathlib.Core.Path.{_≡_, refl, sym, ap, _∙_}
+use mathlib.Core.Path.{_≡_, refl, sym, _∙_}
 use Rattle.telegram.proofs.reading.number_of.Statement.{statement}
 use Rattle.telegram.proofs.reading.number_of.Tie as tie
-use Rattle.telegram.proofs.reading.number_of.Reads as reads
-use Rattle.telegram.proofs.reading.number_of.Lts as lts
-use Rattle.telegram.proofs.reading.with_digit.Reads as with-digit-reads
 
 abbrev Inv-loop : tie.InvT-loop
 Inv-loop decimal text a₀ i₀ a i = (i ≤ length text) × (a < base decimal ^ i) × (numberOn decimal a (drop i text) ≡ numberOn decimal 0 text)
@@ -20,33 +17,26 @@ Inv-loop decimal text a₀ i₀ a i = (i ≤ length text) × (a < base decimal ^
 abbrev μ-loop : tie.MeasureT-loop
 μ-loop decimal text a₀ i₀ a i = length text - i
 
--- src/reading.rt:55:5
 loop-holds : tie.Need-loop-holds Inv-loop μ-loop
 loop-holds c = (omega arith, no-digit (c .before .args .decimal), refl)
 
--- src/reading.rt:56:36
 shared-slice-read-with-digit : tie.Need-shared-slice-read-with-digit Inv-loop μ-loop
 shared-slice-read-with-digit c = search needs
 
--- src/reading.rt:56:9
 with-digit-requires : tie.Need-with-digit-requires Inv-loop μ-loop
 with-digit-requires c κs = let p = few (c .before .before .before .before .args .decimal) (length (now (c .before .before .before .before .args .text))) (c .before .before .loop .i) (c .before .before .before .before .pre .0) (c .before .before .before .before .pre .1) (c .before .loop-test .taken) in omega (arith, c .before .before .loop .inv .1)
 
--- src/reading.rt:57:13
 add-i : tie.Need-add-i Inv-loop μ-loop
 add-i c = search needs
 
--- src/reading.rt:55:5
 loop-less : tie.Need-loop-less Inv-loop μ-loop
 loop-less c = search needs
 
--- src/reading.rt:55:5
 loop-again : tie.Need-loop-again Inv-loop μ-loop
 loop-again c =
     let a = c .before .before .before .before .before .args in let l = c .before .before .before .loop in
     (omega arith, rw (c .with-digit .ensures) (digit-more (a .decimal) (l .i) (l .a) (getD (now (a .text)) (l .i) 0) (l .inv .1)), rw (c .with-digit .ensures) (sym (number-step (a .decimal) (now (a .text)) (l .i) (l .a) (c .before .before .loop-test .taken)) ∙ l .inv .2))
 
--- src/reading.rt:49:1
 returns : tie.Need-returns Inv-loop μ-loop
 unfolding numberOn
 returns c =

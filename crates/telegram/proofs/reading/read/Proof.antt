@@ -1,46 +1,34 @@
+-- `telegram::reading::read` meets its contract. Assumes nothing.
 use Rattle.telegram.proofs.Contents.{no-line, frame-bad, frame-good}
 use Rattle.telegram.specs.Answers.{faultOf}
 use Rattle.laws.proofs.Truths.{not-true, not-false}
 use denote.Ref.{now}
-use mathlib.Core.Path.{_≡_, refl, sym, ap, _∙_}
+use mathlib.Core.Path.{sym, ap, _∙_}
 use borrow.Author.Needs.{needs}
 use Rattle.telegram.proofs.reading.read.Statement.{statement}
 use Rattle.telegram.proofs.reading.read.Tie as tie
-use Rattle.telegram.proofs.reading.read.Reads as reads
-use Rattle.telegram.proofs.reading.read.Lts as lts
-use Rattle.forms.proofs.table.is_line.Reads as is-line-reads
-use Rattle.telegram.proofs.frame.frame_check.Reads as frame-check-reads
-use Rattle.telegram.proofs.reading.contents.Reads as contents-reads
 
--- src/reading.rt:140:9
 is-line-requires : tie.Need-is-line-requires
 is-line-requires c κs = search needs
 
--- src/reading.rt:141:9
 returns : tie.Need-returns
 returns c = no-line (c .before .before .before .args .line) (now (c .before .before .before .args .s)) (sym (c .before .is-line .ensures) ∙ not-true _ (c .if1 .taken))
 
--- src/reading.rt:143:9
 frame-check-requires : tie.Need-frame-check-requires
 frame-check-requires c κs = search needs
 
--- src/reading.rt:145:22
 enum-known-check : tie.Need-enum-known-check
 enum-known-check c = search needs
 
--- src/reading.rt:146:24
 enum-told : tie.Need-enum-told
 enum-told c = search needs
 
--- src/reading.rt:146:24
 contents-requires : tie.Need-contents-requires
 contents-requires c κs = search needs
 
--- src/reading.rt:137:1
 returns-2 : tie.Need-returns-2
 returns-2 c = frame-bad (c .before .before .before .before .before .before .before .args .line) (now (c .before .before .before .before .before .before .before .args .s)) (sym (c .before .before .before .before .before .is-line .ensures) ∙ not-false _ (c .before .before .before .before .if1 .left)) _ _ (sym (ap faultOf (c .before .check .given .1)) ∙ c .before .before .before .frame-check .ensures)
 
--- src/reading.rt:137:1
 returns-3 : tie.Need-returns-3
 returns-3 c = c .contents .ensures ∙ frame-good (c .before .before .before .before .before .before .before .args .line) (now (c .before .before .before .before .before .before .before .args .s)) (sym (c .before .before .before .before .before .is-line .ensures) ∙ not-false _ (c .before .before .before .before .if1 .left)) (sym (ap faultOf (c .before .enum-told .given .1)) ∙ c .before .before .before .frame-check .ensures)
 

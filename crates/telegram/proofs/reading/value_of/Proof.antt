@@ -1,50 +1,38 @@
+-- `telegram::reading::value_of` meets its contract. Assumes nothing.
 use Rattle.telegram.proofs.Filled.{length-take-most}
 use Rattle.values.specs.Values.{valueOf}
 use lib.Seq.{take-all}
 use lib.ListN.{length, drop, length-drop}
 use Prim.Native.Nat.{_≤_}
-use borrow.Author.Tests.{eq-eqb, ne-eqb, le-ltb, lt-ltb}
+use borrow.Author.Tests.{eq-eqb, ne-eqb}
 use denote.Ref.{now}
 use native.Mathlib.Omega.{arith}
-use mathlib.Core.Path.{_≡_, refl, sym, ap, _∙_}
+use mathlib.Core.Path.{_≡_, sym, _∙_}
 use borrow.Author.Needs.{needs}
 use Rattle.telegram.proofs.reading.value_of.Statement.{statement}
 use Rattle.telegram.proofs.reading.value_of.Tie as tie
-use Rattle.telegram.proofs.reading.value_of.Reads as reads
-use Rattle.telegram.proofs.reading.value_of.Lts as lts
-use Rattle.values.proofs.packets.is_decimal.Reads as is-decimal-reads
-use Rattle.values.proofs.packets.lead_of.Reads as lead-of-reads
-use Rattle.forms.proofs.slices.part.Reads as part-reads
-use Rattle.telegram.proofs.reading.number_of.Reads as number-of-reads
 
--- src/reading.rt:68:9
 lead-of-requires : tie.Need-lead-of-requires
 lead-of-requires c κs = search needs
 
--- src/reading.rt:69:9
 is-decimal-requires : tie.Need-is-decimal-requires
 is-decimal-requires c κs = search needs
 
--- src/reading.rt:71:9
 number-of-requires : tie.Need-number-of-requires
 number-of-requires c κs = (c .before .before .before .before .pre .0, λ e. c .before .before .before .before .pre .1 (sym (c .before .is-decimal .ensures) ∙ e))
 
--- src/reading.rt:71:9
 returns : tie.Need-returns
 unfolding valueOf
 returns c = c .number-of .ensures ∙ rw (← (c .before .before .before .lead-of .ensures), eq-eqb _ _ (c .before .if1 .taken), c .before .before .is-decimal .ensures)
 
--- src/reading.rt:73:24
 part-requires : tie.Need-part-requires
 part-requires c κs = search needs
 
--- src/reading.rt:73:5
 number-of-requires-2 : tie.Need-number-of-requires-2
 number-of-requires-2 c κs =
     let l : length (now (c .part .result)) ≤ length (now (c .before .before .before .before .before .args .text)) = rw (c .part .ensures) (length-take-most (length (now (c .before .before .before .before .before .args .text))) (drop 1 (now (c .before .before .before .before .before .args .text)))) in
     (omega (arith, c .before .before .before .before .before .pre .0), λ e. omega (arith, c .before .before .before .before .before .pre .1 (sym (c .before .before .is-decimal .ensures) ∙ e)))
 
--- src/reading.rt:64:1
 returns-2 : tie.Need-returns-2
 unfolding valueOf
 returns-2 c =

@@ -1,30 +1,22 @@
+-- `telegram::reading::values_in` meets its contract. Assumes nothing.
 use Rattle.telegram.proofs.Narrow.{narrow-says}
 use Rattle.telegram.proofs.Filled.{filled-step, behind-step, filled-end, length-take-most}
 use Rattle.telegram.proofs.Walk.{value-here, narrow-here, narrow-on}
 use Rattle.telegram.specs.Field.{valuesIn, narrowSlot}
 use Rattle.values.specs.Values.{valueOf}
 use Rattle.laws.specs.Truth.{every, pad}
-use lib.ListN.{length-set}
-use mathlib.Core.List.{List}
+use lib.ListN.{length-set, length, take, drop, getD}
+use mathlib.Core.List.{List, [], _++_}
 use mathlib.Core.Bool.{true}
-use Prim.Native.Nat.{suc}
+use Prim.Native.Nat.{suc, ℕ, _≤_, _+_, _-_, _*_}
 use Rattle.forms.proofs.Slots.{count-small, slots-end}
 use Rattle.forms.specs.Forms.{slotsIn, slotsOf}
-use lib.ListN.{length, take, drop, getD}
-use mathlib.Core.List.{[], _++_}
-use Prim.Native.Nat.{ℕ, _≤_, _<_, _+_, _-_, _*_}
 use native.Mathlib.Omega.{arith}
 use borrow.Author.Needs.{needs}
 use denote.Ref.{now}
-use mathlib.Core.Path.{_≡_, refl, sym, ap, _∙_}
+use mathlib.Core.Path.{_≡_, refl, ap, _∙_}
 use Rattle.telegram.proofs.reading.values_in.Statement.{statement}
 use Rattle.telegram.proofs.reading.values_in.Tie as tie
-use Rattle.telegram.proofs.reading.values_in.Reads as reads
-use Rattle.telegram.proofs.reading.values_in.Lts as lts
-use Rattle.forms.proofs.slices.part.Reads as part-reads
-use Rattle.forms.proofs.table.count_of.Reads as count-of-reads
-use Rattle.telegram.proofs.field.wide.Reads as wide-reads
-use Rattle.telegram.proofs.reading.value_of.Reads as value-of-reads
 
 abbrev Inv-loop : tie.InvT-loop
 Inv-loop field letters lens count values₀ at₀ j₀ values at j = (count ≤ 10) × (j ≤ count) × (at ≤ 256 * j) × (length values ≡ 10) × (drop j values ≡ drop j (pad 10 [])) × (take j values ++ valuesIn (10 - j) (slotsIn (count - j) (drop j letters) (drop j lens)) (drop at field) ≡ valuesIn 10 (slotsIn count letters lens) field) × (every narrowSlot (slotsIn (count - j) (drop j letters) (drop j lens)) ≡ true)
@@ -32,69 +24,54 @@ Inv-loop field letters lens count values₀ at₀ j₀ values at j = (count ≤ 
 abbrev μ-loop : tie.MeasureT-loop
 μ-loop field letters lens count values₀ at₀ j₀ values at j = count - j
 
--- src/reading.rt:82:9
 count-of-requires : tie.Need-count-of-requires Inv-loop μ-loop
 count-of-requires c κs = search needs
 
--- src/reading.rt:86:5
 loop-holds : tie.Need-loop-holds Inv-loop μ-loop
 unfolding slotsOf
 loop-holds c =
     let z : c .count-of .result - 0 ≡ c .count-of .result = omega arith in
     (omega (arith, c .count-of .ensures, count-small (c .before .before .before .before .args .form)), omega arith, omega arith, refl, refl, rw z, rw (z, c .count-of .ensures) (c .before .before .before .before .pre))
 
--- src/reading.rt:87:24
 array-read-wide : tie.Need-array-read-wide Inv-loop μ-loop
 array-read-wide c = search needs
 
--- src/reading.rt:87:13
 wide-requires : tie.Need-wide-requires Inv-loop μ-loop
 wide-requires c κs = search needs
 
--- src/reading.rt:88:30
 array-read-value-of : tie.Need-array-read-value-of Inv-loop μ-loop
 array-read-value-of c = search needs
 
--- src/reading.rt:88:54
 add-part : tie.Need-add-part Inv-loop μ-loop
 add-part c = omega arith
 
--- src/reading.rt:88:42
 part-requires : tie.Need-part-requires Inv-loop μ-loop
 part-requires c κs = search needs
 
--- src/reading.rt:88:21
 value-of-requires : tie.Need-value-of-requires Inv-loop μ-loop
 value-of-requires c κs =
     let p = narrow-says _ _ (narrow-here (c .before .before .before .before .before .before .before .before .args .form .letters) (c .before .before .before .before .before .before .before .before .args .form .lens) (now (c .before .before .before .before .before .before .before .before .args .field)) (c .before .before .before .before .count-of .result) (c .before .before .before .loop .j) (c .before .before .before .loop .at) (c .before .before .loop-test .taken) (c .before .before .before .loop .inv .6)) in
     let k : length (now (c .part .result)) ≤ c .before .wide .result = rw (c .part .ensures) (length-take-most (c .before .wide .result) (drop (c .before .before .before .loop .at + 1) (now (c .before .before .before .before .before .before .before .before .args .field)))) in
     (omega (arith, p .0, c .before .wide .ensures .0), λ e. omega (arith, p .1 e, c .before .wide .ensures .0))
 
--- src/reading.rt:88:9
 mul-values : tie.Need-mul-values Inv-loop μ-loop
 mul-values c = search needs
 
--- src/reading.rt:88:9
 array-write-values : tie.Need-array-write-values Inv-loop μ-loop
 array-write-values c = omega arith
 
--- src/reading.rt:89:20
 add-at : tie.Need-add-at Inv-loop μ-loop
 add-at c = omega arith
 
--- src/reading.rt:89:14
 add-at-2 : tie.Need-add-at-2 Inv-loop μ-loop
 add-at-2 c = omega arith
 
--- src/reading.rt:90:13
 add-j : tie.Need-add-j Inv-loop μ-loop
 add-j c = search needs
 
--- src/reading.rt:86:5
 loop-less : tie.Need-loop-less Inv-loop μ-loop
 loop-less c = search needs
 
--- src/reading.rt:86:5
 loop-again : tie.Need-loop-again Inv-loop μ-loop
 loop-again c =
     let l = c .before .before .before .before .loop in
@@ -104,7 +81,6 @@ loop-again c =
     let g = rw (k, value-here (c .before .before .before .before .before .before .before .before .before .args .form .letters) (c .before .before .before .before .before .before .before .before .before .args .form .lens) (now (c .before .before .before .before .before .before .before .before .before .args .field)) (c .before .before .before .before .before .count-of .result) (c .before .before .before .before .loop .j) (c .before .before .before .before .loop .at) (c .before .before .before .loop-test .taken) (10 - (l .j + 1)) w (c .before .before .wide .ensures .0), ← x) at (l .inv .5) in
     (l .inv .0, omega arith, omega (arith, c .before .before .wide .ensures .1), simp length-set (l .inv .3), behind-step (l .values) (pad 10 []) (l .j) (c .value-of .result) (l .inv .4), filled-step (l .values) (l .j) (c .value-of .result) _ _ (omega arith) g, narrow-on (c .before .before .before .before .before .before .before .before .before .args .form .letters) (c .before .before .before .before .before .before .before .before .before .args .form .lens) (now (c .before .before .before .before .before .before .before .before .before .args .field)) (c .before .before .before .before .before .count-of .result) (c .before .before .before .before .loop .j) (c .before .before .before .before .loop .at) (c .before .before .before .loop-test .taken) (l .inv .6))
 
--- src/reading.rt:76:1
 returns : tie.Need-returns Inv-loop μ-loop
 unfolding slotsOf
 returns c =

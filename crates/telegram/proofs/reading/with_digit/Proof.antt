@@ -1,44 +1,34 @@
+-- `telegram::reading::with_digit` meets its contract. Assumes nothing.
 use Rattle.laws.proofs.Truths.{not-true, not-false}
 use native.Mathlib.Omega.{arith}
 use borrow.Author.Needs.{needs}
 use Rattle.telegram.proofs.reading.with_digit.Statement.{statement}
 use Rattle.telegram.proofs.reading.with_digit.Tie as tie
-use Rattle.telegram.proofs.reading.with_digit.Reads as reads
-use Rattle.telegram.proofs.reading.with_digit.Lts as lts
 
--- src/reading.rt:40:16
 mul-result : tie.Need-mul-result
 mul-result c = search needs
 
--- src/reading.rt:40:16
 add-result : tie.Need-add-result
 add-result c = search needs
 
--- src/reading.rt:40:9
 returns : tie.Need-returns
 returns c = rw (not-true (c .before .args .decimal) (c .if1 .taken)) (omega (arith, c .before .fits .b))
 
--- src/reading.rt:43:16
 mul-result-2 : tie.Need-mul-result-2
 mul-result-2 c = search needs
 
--- src/reading.rt:43:9
 returns-2 : tie.Need-returns-2
 returns-2 c = rw (not-false (c .before .before .args .decimal) (c .before .if1 .left)) (omega arith)
 
--- src/reading.rt:45:5
 mul-result-3 : tie.Need-mul-result-3
 mul-result-3 c = search needs
 
--- src/reading.rt:45:14
 cast-result : tie.Need-cast-result
 cast-result c = search needs
 
--- src/reading.rt:45:5
 add-result-2 : tie.Need-add-result-2
 add-result-2 c = search needs
 
--- src/reading.rt:35:1
 returns-3 : tie.Need-returns-3
 returns-3 c = rw (not-false (c .before .before .args .decimal) (c .before .if1 .left))
 

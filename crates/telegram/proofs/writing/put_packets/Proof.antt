@@ -1,25 +1,18 @@
+-- `telegram::writing::put_packets` meets its contract. Assumes nothing.
 use Rattle.telegram.proofs.Put.{packet-here}
 use Rattle.telegram.specs.Field.{dataOf}
-use Rattle.forms.specs.Forms.{widthIn, widthOf}
+use Rattle.forms.specs.Forms.{widthIn, widthOf, slotsIn, slotsOf}
 use lib.Seq.{take-all}
 use native.Mathlib.Nat.{zero-add}
-use mathlib.Core.List.{append-nil}
+use mathlib.Core.List.{append-nil, [], _++_}
 use Rattle.forms.proofs.Slots.{count-small, slots-end, width-here}
-use Rattle.forms.specs.Forms.{slotsIn, slotsOf}
-use lib.ListN.{length, take, drop, getD}
-use mathlib.Core.List.{[], _++_}
-use Prim.Native.Nat.{ℕ, _≤_, _<_, _+_, _-_, _*_}
+use lib.ListN.{length, take, drop}
+use Prim.Native.Nat.{_≤_, _+_, _-_}
 use native.Mathlib.Omega.{arith}
 use borrow.Author.Needs.{needs}
-use denote.Ref.{now}
-use mathlib.Core.Path.{_≡_, refl, sym, ap, _∙_}
+use mathlib.Core.Path.{_≡_, refl, sym, _∙_}
 use Rattle.telegram.proofs.writing.put_packets.Statement.{statement}
 use Rattle.telegram.proofs.writing.put_packets.Tie as tie
-use Rattle.telegram.proofs.writing.put_packets.Reads as reads
-use Rattle.telegram.proofs.writing.put_packets.Lts as lts
-use Rattle.forms.proofs.table.count_of.Reads as count-of-reads
-use Rattle.values.proofs.values.put_packet.Reads as put-packet-reads
-use Rattle.telegram.proofs.field.wide.Reads as wide-reads
 
 abbrev Inv-loop : tie.InvT-loop
 Inv-loop field₀ values letters lens count at₀ j₀ field at j = (count ≤ 10) × (j ≤ count) × (length field ≡ length field₀) × (at + widthIn (slotsIn (count - j) (drop j letters) (drop j lens)) ≡ length field₀) × (take at field ++ dataOf (slotsIn (count - j) (drop j letters) (drop j lens)) (drop j values) ≡ dataOf (slotsIn count letters lens) values)
@@ -27,70 +20,54 @@ Inv-loop field₀ values letters lens count at₀ j₀ field at j = (count ≤ 1
 abbrev μ-loop : tie.MeasureT-loop
 μ-loop field₀ values letters lens count at₀ j₀ field at j = count - j
 
--- src/writing.rt:60:9
 count-of-requires : tie.Need-count-of-requires Inv-loop μ-loop
 count-of-requires c κs = search needs
 
--- src/writing.rt:63:5
 loop-holds : tie.Need-loop-holds Inv-loop μ-loop
 unfolding widthOf slotsOf
 loop-holds c =
     let z : c .count-of .result - 0 ≡ c .count-of .result = omega arith in
     (omega (arith, c .count-of .ensures, count-small (c .before .before .before .before .args .form)), omega arith, refl, rw (z, zero-add, c .count-of .ensures) (sym (c .before .before .before .before .pre)), rw z)
 
--- src/writing.rt:64:34
 array-read-wide : tie.Need-array-read-wide Inv-loop μ-loop
 array-read-wide c = search needs
 
--- src/writing.rt:64:29
 wide-requires : tie.Need-wide-requires Inv-loop μ-loop
 wide-requires c κs = search needs
 
--- src/writing.rt:64:25
 add-end : tie.Need-add-end Inv-loop μ-loop
 add-end c = omega (arith, width-here (c .before .before .before .before .before .before .before .args .form .letters) (c .before .before .before .before .before .before .before .args .form .lens) (c .before .before .before .count-of .result) (c .before .before .loop .j) (c .before .loop-test .taken), c .wide .ensures .0)
 
--- src/writing.rt:64:19
 add-end-2 : tie.Need-add-end-2 Inv-loop μ-loop
 add-end-2 c = omega (arith, width-here (c .before .before .before .before .before .before .before .args .form .letters) (c .before .before .before .before .before .before .before .args .form .lens) (c .before .before .before .count-of .result) (c .before .before .loop .j) (c .before .loop-test .taken), c .wide .ensures .0)
 
--- src/writing.rt:65:20
 sub-put-packet : tie.Need-sub-put-packet Inv-loop μ-loop
 sub-put-packet c = omega arith
 
--- src/writing.rt:65:20
 part-put-packet-start : tie.Need-part-put-packet-start Inv-loop μ-loop
 part-put-packet-start c = omega arith
 
--- src/writing.rt:65:20
 part-put-packet-end : tie.Need-part-put-packet-end Inv-loop μ-loop
 part-put-packet-end c = omega (arith, width-here (c .before .before .before .before .before .before .before .args .form .letters) (c .before .before .before .before .before .before .before .args .form .lens) (c .before .before .before .count-of .result) (c .before .before .loop .j) (c .before .loop-test .taken), c .wide .ensures .0)
 
--- src/writing.rt:65:41
 array-read-put-packet : tie.Need-array-read-put-packet Inv-loop μ-loop
 array-read-put-packet c = search needs
 
--- src/writing.rt:65:53
 mul-put-packet : tie.Need-mul-put-packet Inv-loop μ-loop
 mul-put-packet c = search needs
 
--- src/writing.rt:65:53
 array-read-put-packet-2 : tie.Need-array-read-put-packet-2 Inv-loop μ-loop
 array-read-put-packet-2 c = search needs
 
--- src/writing.rt:65:9
 put-packet-requires : tie.Need-put-packet-requires Inv-loop μ-loop
 put-packet-requires c κs = search needs
 
--- src/writing.rt:67:13
 add-j : tie.Need-add-j Inv-loop μ-loop
 add-j c = search needs
 
--- src/writing.rt:63:5
 loop-less : tie.Need-loop-less Inv-loop μ-loop
 loop-less c = search needs
 
--- src/writing.rt:63:5
 loop-again : tie.Need-loop-again Inv-loop μ-loop
 loop-again c =
     let a = c .before .before .before .before .before .before .before .before .before .before .before .args in let l = c .before .before .before .before .before .before .loop in let n = c .before .before .before .before .before .before .before .count-of .result in
@@ -103,11 +80,9 @@ loop-again c =
       packet-here (a .form .letters) (a .form .lens) (a .t3) n (l .j) (c .before .before .before .before .before .loop-test .taken) (l .field) _ _ (l .at) (w .result) (w .ensures .0) (omega (arith, w .ensures .0)) (c .before .before .put-packet .kept .0) (c .before .before .put-packet .ensures) (l .inv .4),
     )
 
--- src/writing.rt:54:1
 same-length : tie.Need-same-length Inv-loop μ-loop
 same-length c = c .before .loop .inv .2
 
--- src/writing.rt:54:1
 returns : tie.Need-returns Inv-loop μ-loop
 unfolding slotsOf dataOf widthIn
 returns c =

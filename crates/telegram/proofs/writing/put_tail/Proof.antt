@@ -1,41 +1,32 @@
+-- `telegram::writing::put_tail` meets its contract. Assumes nothing.
 use Rattle.telegram.proofs.Framing.{sum-two}
 use Rattle.telegram.proofs.Put.{three}
 use Prim.Native.Nat.{ℕ}
 use mathlib.Core.List.{List, [], _∷_, _++_}
 use denote.Ref.{now}
-use mathlib.Core.Path.{_≡_, refl, sym, ap, _∙_}
+use mathlib.Core.Path.{ap, _∙_}
 use borrow.Author.Needs.{needs}
 use Rattle.telegram.proofs.writing.put_tail.Statement.{statement}
 use Rattle.telegram.proofs.writing.put_tail.Tie as tie
-use Rattle.telegram.proofs.writing.put_tail.Reads as reads
-use Rattle.telegram.proofs.writing.put_tail.Lts as lts
-use Rattle.forms.proofs.checksum.hex.Reads as hex-reads
 
--- src/writing.rt:48:15
 hex-requires : tie.Need-hex-requires
 hex-requires c κs = search needs
 
--- src/writing.rt:48:5
 slice-write-part : tie.Need-slice-write-part
 slice-write-part c = search needs
 
--- src/writing.rt:49:15
 hex-requires-2 : tie.Need-hex-requires-2
 hex-requires-2 c κs = search needs
 
--- src/writing.rt:49:5
 slice-write-part-2 : tie.Need-slice-write-part-2
 slice-write-part-2 c = search needs
 
--- src/writing.rt:50:5
 slice-write-part-3 : tie.Need-slice-write-part-3
 slice-write-part-3 c = search needs
 
--- src/writing.rt:44:1
 same-length : tie.Need-same-length
 same-length c = search needs
 
--- src/writing.rt:44:1
 returns : tie.Need-returns
 returns c = three (now (c .before .before .before .args .part)) _ _ _ (c .before .before .before .pre) ∙ ap (λ (l : List ℕ). l ++ (13 ∷ [])) (sum-two (c .before .before .before .args .sum) _ _ (c .before .hex .ensures) (c .hex2 .ensures))
 

@@ -1,108 +1,79 @@
+-- `telegram::writing::put_telegram` meets its contract. Assumes nothing.
 use Rattle.telegram.specs.Field.{dataOf}
-use Rattle.telegram.specs.Frame.{frameOf}
+use Rattle.telegram.specs.Frame.{frameOf, tailText}
 use Rattle.forms.specs.Forms.{slotsOf, widthOf}
-use lib.ListN.{drop}
+use lib.ListN.{drop, length}
 use mathlib.Core.List.{[], _++_}
 use Rattle.telegram.proofs.Put.{summed, telegram-put, head-length}
-use Rattle.telegram.specs.Frame.{tailText}
 use Rattle.forms.specs.Checksum.{checksumOf}
-use lib.ListN.{length}
 use Prim.Native.Nat.{_+_}
 use native.Mathlib.Omega.{arith}
 use denote.Ref.{now}
-use mathlib.Core.Path.{_≡_, refl, sym, ap, _∙_}
+use mathlib.Core.Path.{_≡_, ap, _∙_}
 use borrow.Author.Needs.{needs}
 use Rattle.telegram.proofs.writing.put_telegram.Statement.{statement}
 use Rattle.telegram.proofs.writing.put_telegram.Tie as tie
-use Rattle.telegram.proofs.writing.put_telegram.Reads as reads
-use Rattle.telegram.proofs.writing.put_telegram.Lts as lts
-use Rattle.forms.proofs.checksum.checksum.Reads as checksum-reads
-use Rattle.forms.proofs.table.width_of.Reads as width-of-reads
-use Rattle.telegram.proofs.writing.put_head.Reads as put-head-reads
-use Rattle.telegram.proofs.writing.put_packets.Reads as put-packets-reads
-use Rattle.telegram.proofs.writing.put_tail.Reads as put-tail-reads
 
--- src/writing.rt:76:17
 width-of-requires : tie.Need-width-of-requires
 width-of-requires c κs = search needs
 
--- src/writing.rt:76:13
 add-n : tie.Need-add-n
 add-n c = search needs
 
--- src/writing.rt:77:15
 sub-end : tie.Need-sub-end
 sub-end c = search needs
 
--- src/writing.rt:78:14
 sub-put-head : tie.Need-sub-put-head
 sub-put-head c = search needs
 
--- src/writing.rt:78:14
 part-put-head-start : tie.Need-part-put-head-start
 part-put-head-start c = search needs
 
--- src/writing.rt:78:14
 part-put-head-end : tie.Need-part-put-head-end
 part-put-head-end c = search needs
 
--- src/writing.rt:78:5
 put-head-requires : tie.Need-put-head-requires
 put-head-requires c κs = search needs
 
--- src/writing.rt:79:17
 sub-put-packets : tie.Need-sub-put-packets
 sub-put-packets c = search needs
 
--- src/writing.rt:79:17
 part-put-packets-start : tie.Need-part-put-packets-start
 part-put-packets-start c = search needs
 
--- src/writing.rt:79:17
 part-put-packets-end : tie.Need-part-put-packets-end
 part-put-packets-end c = search needs
 
--- src/writing.rt:79:5
 put-packets-requires : tie.Need-put-packets-requires
 put-packets-requires c κs = omega (arith, c .put-packets-arg .given .2, c .before .before .before .before .before .width-of .ensures .0)
 
--- src/writing.rt:80:24
 sub-checksum : tie.Need-sub-checksum
 sub-checksum c = search needs
 
--- src/writing.rt:80:24
 part-checksum-start : tie.Need-part-checksum-start
 part-checksum-start c = search needs
 
--- src/writing.rt:80:24
 part-checksum-end : tie.Need-part-checksum-end
 part-checksum-end c = search needs
 
--- src/writing.rt:80:9
 checksum-requires : tie.Need-checksum-requires
 checksum-requires c κs = search needs
 
--- src/writing.rt:81:14
 sub-put-tail : tie.Need-sub-put-tail
 sub-put-tail c = search needs
 
--- src/writing.rt:81:14
 part-put-tail-start : tie.Need-part-put-tail-start
 part-put-tail-start c = search needs
 
--- src/writing.rt:81:14
 part-put-tail-end : tie.Need-part-put-tail-end
 part-put-tail-end c = search needs
 
--- src/writing.rt:81:5
 put-tail-requires : tie.Need-put-tail-requires
 put-tail-requires c κs = search needs
 
--- src/writing.rt:72:1
 same-length : tie.Need-same-length
 same-length c = search needs
 
--- src/writing.rt:72:1
 returns : tie.Need-returns
 returns c =
     let a = c .before .before .before .before .before .before .before .before .before .before .before .before .before .before .before .before .before .args in

@@ -1,18 +1,14 @@
+-- `values::packets::in_country` meets its contract. Assumes nothing.
 use Rattle.laws.proofs.Tests.{tests}
 use Rattle.values.proofs.packets.in_country.Statement.{statement}
 use Rattle.values.proofs.packets.in_country.Tie as tie
-use Rattle.values.proofs.packets.in_country.Reads as reads
-use Rattle.values.proofs.packets.in_country.Lts as lts
 
--- src/packets.rt:217:1
 returns : tie.Need-returns
 returns c = search tests
 
--- src/packets.rt:217:1
 returns-2 : tie.Need-returns-2
 returns-2 c = search tests
 
--- src/packets.rt:217:1
 returns-3 : tie.Need-returns-3
 returns-3 c = search tests
 

@@ -1,18 +1,14 @@
+-- `values::packets::in_direction` meets its contract. Assumes nothing.
 use Rattle.laws.proofs.Tests.{tests}
 use Rattle.values.proofs.packets.in_direction.Statement.{statement}
 use Rattle.values.proofs.packets.in_direction.Tie as tie
-use Rattle.values.proofs.packets.in_direction.Reads as reads
-use Rattle.values.proofs.packets.in_direction.Lts as lts
 
--- src/packets.rt:129:1
 returns : tie.Need-returns
 returns c = rw (c .match .keys1)
 
--- src/packets.rt:129:1
 returns-2 : tie.Need-returns-2
 returns-2 c = rw (c .match .keys2)
 
--- src/packets.rt:129:1
 returns-3 : tie.Need-returns-3
 returns-3 c = search tests
 

@@ -1,22 +1,17 @@
+-- `values::packets::in_effect` meets its contract. Assumes nothing.
 use Rattle.laws.proofs.Tests.{tests}
 use Rattle.values.proofs.packets.in_effect.Statement.{statement}
 use Rattle.values.proofs.packets.in_effect.Tie as tie
-use Rattle.values.proofs.packets.in_effect.Reads as reads
-use Rattle.values.proofs.packets.in_effect.Lts as lts
 
--- src/packets.rt:196:1
 returns : tie.Need-returns
 returns c = rw (c .match .keys1)
 
--- src/packets.rt:196:1
 returns-2 : tie.Need-returns-2
 returns-2 c = rw (c .match .keys2)
 
--- src/packets.rt:196:1
 returns-3 : tie.Need-returns-3
 returns-3 c = rw (c .match .keys3)
 
--- src/packets.rt:196:1
 returns-4 : tie.Need-returns-4
 returns-4 c = search tests
 

@@ -1,22 +1,17 @@
+-- `values::packets::in_form` meets its contract. Assumes nothing.
 use Rattle.laws.proofs.Tests.{tests}
 use Rattle.values.proofs.packets.in_form.Statement.{statement}
 use Rattle.values.proofs.packets.in_form.Tie as tie
-use Rattle.values.proofs.packets.in_form.Reads as reads
-use Rattle.values.proofs.packets.in_form.Lts as lts
 
--- src/packets.rt:169:1
 returns : tie.Need-returns
 returns c = search tests
 
--- src/packets.rt:169:1
 returns-2 : tie.Need-returns-2
 returns-2 c = search tests
 
--- src/packets.rt:169:1
 returns-3 : tie.Need-returns-3
 returns-3 c = search tests
 
--- src/packets.rt:169:1
 returns-4 : tie.Need-returns-4
 returns-4 c = search tests
 

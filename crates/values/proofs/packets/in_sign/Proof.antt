@@ -1,28 +1,22 @@
+-- `values::packets::in_sign` meets its contract. Assumes nothing.
 use borrow.Author.Tests.{lt-ltb}
 use native.Mathlib.Omega.{arith}
 use Rattle.laws.proofs.Tests.{tests}
 use Rattle.values.proofs.packets.in_sign.Statement.{statement}
 use Rattle.values.proofs.packets.in_sign.Tie as tie
-use Rattle.values.proofs.packets.in_sign.Reads as reads
-use Rattle.values.proofs.packets.in_sign.Lts as lts
 
--- src/packets.rt:207:1
 returns : tie.Need-returns
 returns c = search tests
 
--- src/packets.rt:207:1
 returns-2 : tie.Need-returns-2
 returns-2 c = search tests
 
--- src/packets.rt:207:1
 returns-3 : tie.Need-returns-3
 returns-3 c = simp (lt-ltb _ _ (c .if1 .taken), lt-ltb (c .before .args .b) 65 (omega arith))
 
--- src/packets.rt:207:1
 returns-4 : tie.Need-returns-4
 returns-4 c = search tests
 
--- src/packets.rt:207:1
 returns-5 : tie.Need-returns-5
 returns-5 c = search tests
 

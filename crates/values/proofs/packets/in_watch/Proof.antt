@@ -1,24 +1,18 @@
+-- `values::packets::in_watch` meets its contract. Assumes nothing.
 use Rattle.laws.proofs.Tests.{tests}
 use borrow.Author.Needs.{needs}
 use Rattle.values.proofs.packets.in_watch.Statement.{statement}
 use Rattle.values.proofs.packets.in_watch.Tie as tie
-use Rattle.values.proofs.packets.in_watch.Reads as reads
-use Rattle.values.proofs.packets.in_watch.Lts as lts
-use Rattle.values.proofs.packets.in_form.Reads as in-form-reads
 
--- src/packets.rt:191:9
 returns : tie.Need-returns
 returns c = search tests
 
--- src/packets.rt:193:34
 in-form-requires : tie.Need-in-form-requires
 in-form-requires c κs = search needs
 
--- src/packets.rt:187:1
 returns-2 : tie.Need-returns-2
 returns-2 c = search tests
 
--- src/packets.rt:187:1
 returns-3 : tie.Need-returns-3
 returns-3 c = search tests
 

@@ -1,216 +1,155 @@
+-- `values::packets::permits_byte` meets its contract. Assumes nothing.
 use Rattle.values.specs.Packets.{permits}
 use borrow.Author.Needs.{needs}
 use Rattle.values.proofs.packets.permits_byte.Statement.{statement}
 use Rattle.values.proofs.packets.permits_byte.Tie as tie
-use Rattle.values.proofs.packets.permits_byte.Reads as reads
-use Rattle.values.proofs.packets.permits_byte.Lts as lts
-use Rattle.values.proofs.packets.in_approval.Reads as in-approval-reads
-use Rattle.values.proofs.packets.in_cause.Reads as in-cause-reads
-use Rattle.values.proofs.packets.in_channel.Reads as in-channel-reads
-use Rattle.values.proofs.packets.in_country.Reads as in-country-reads
-use Rattle.values.proofs.packets.in_direction.Reads as in-direction-reads
-use Rattle.values.proofs.packets.in_effect.Reads as in-effect-reads
-use Rattle.values.proofs.packets.in_lamp.Reads as in-lamp-reads
-use Rattle.values.proofs.packets.in_mode.Reads as in-mode-reads
-use Rattle.values.proofs.packets.in_position.Reads as in-position-reads
-use Rattle.values.proofs.packets.in_request.Reads as in-request-reads
-use Rattle.values.proofs.packets.in_sign.Reads as in-sign-reads
-use Rattle.values.proofs.packets.in_stop.Reads as in-stop-reads
-use Rattle.values.proofs.packets.in_watch.Reads as in-watch-reads
-use Rattle.values.proofs.packets.is_digit.Reads as is-digit-reads
-use Rattle.values.proofs.packets.packet_of.Reads as packet-of-reads
 
--- src/packets.rt:257:9
 packet-of-requires : tie.Need-packet-of-requires
 packet-of-requires c κs = search needs
 
--- src/packets.rt:259:27
 enum-told : tie.Need-enum-told
 enum-told c = search needs
 
--- src/packets.rt:259:27
 is-digit-requires : tie.Need-is-digit-requires
 is-digit-requires c κs = search needs
 
--- src/packets.rt:260:28
 enum-told-2 : tie.Need-enum-told-2
 enum-told-2 c = search needs
 
--- src/packets.rt:260:28
 in-channel-requires : tie.Need-in-channel-requires
 in-channel-requires c κs = search needs
 
--- src/packets.rt:261:29
 enum-told-3 : tie.Need-enum-told-3
 enum-told-3 c = search needs
 
--- src/packets.rt:261:29
 in-position-requires : tie.Need-in-position-requires
 in-position-requires c κs = search needs
 
--- src/packets.rt:262:30
 enum-told-4 : tie.Need-enum-told-4
 enum-told-4 c = search needs
 
--- src/packets.rt:262:30
 in-direction-requires : tie.Need-in-direction-requires
 in-direction-requires c κs = search needs
 
--- src/packets.rt:263:25
 enum-told-5 : tie.Need-enum-told-5
 enum-told-5 c = search needs
 
--- src/packets.rt:263:25
 in-lamp-requires : tie.Need-in-lamp-requires
 in-lamp-requires c κs = search needs
 
--- src/packets.rt:264:25
 enum-told-6 : tie.Need-enum-told-6
 enum-told-6 c = search needs
 
--- src/packets.rt:264:25
 in-stop-requires : tie.Need-in-stop-requires
 in-stop-requires c κs = search needs
 
--- src/packets.rt:265:26
 enum-told-7 : tie.Need-enum-told-7
 enum-told-7 c = search needs
 
--- src/packets.rt:265:26
 in-cause-requires : tie.Need-in-cause-requires
 in-cause-requires c κs = search needs
 
--- src/packets.rt:266:25
 enum-told-8 : tie.Need-enum-told-8
 enum-told-8 c = search needs
 
--- src/packets.rt:266:25
 in-mode-requires : tie.Need-in-mode-requires
 in-mode-requires c κs = search needs
 
--- src/packets.rt:267:26
 enum-told-9 : tie.Need-enum-told-9
 enum-told-9 c = search needs
 
--- src/packets.rt:267:26
 in-watch-requires : tie.Need-in-watch-requires
 in-watch-requires c κs = search needs
 
--- src/packets.rt:268:27
 enum-told-10 : tie.Need-enum-told-10
 enum-told-10 c = search needs
 
--- src/packets.rt:268:27
 in-effect-requires : tie.Need-in-effect-requires
 in-effect-requires c κs = search needs
 
--- src/packets.rt:269:25
 enum-told-11 : tie.Need-enum-told-11
 enum-told-11 c = search needs
 
--- src/packets.rt:269:25
 in-sign-requires : tie.Need-in-sign-requires
 in-sign-requires c κs = search needs
 
--- src/packets.rt:270:28
 enum-told-12 : tie.Need-enum-told-12
 enum-told-12 c = search needs
 
--- src/packets.rt:270:28
 in-country-requires : tie.Need-in-country-requires
 in-country-requires c κs = search needs
 
--- src/packets.rt:271:28
 enum-told-13 : tie.Need-enum-told-13
 enum-told-13 c = search needs
 
--- src/packets.rt:271:28
 in-request-requires : tie.Need-in-request-requires
 in-request-requires c κs = search needs
 
--- src/packets.rt:272:29
 enum-told-14 : tie.Need-enum-told-14
 enum-told-14 c = search needs
 
--- src/packets.rt:272:29
 in-approval-requires : tie.Need-in-approval-requires
 in-approval-requires c κs = search needs
 
--- src/packets.rt:273:28
 enum-told-15 : tie.Need-enum-told-15
 enum-told-15 c = search needs
 
--- src/packets.rt:254:1
 returns : tie.Need-returns
 unfolding permits
 returns c = rw (← (c .before .before .before .packet-of .ensures), c .before .enum-told .given .1) (c .is-digit .ensures)
 
--- src/packets.rt:254:1
 returns-2 : tie.Need-returns-2
 unfolding permits
 returns-2 c = rw (← (c .before .before .before .packet-of .ensures), c .before .enum-told2 .given .1) (c .in-channel .ensures)
 
--- src/packets.rt:254:1
 returns-3 : tie.Need-returns-3
 unfolding permits
 returns-3 c = rw (← (c .before .before .before .packet-of .ensures), c .before .enum-told3 .given .1) (c .in-position .ensures)
 
--- src/packets.rt:254:1
 returns-4 : tie.Need-returns-4
 unfolding permits
 returns-4 c = rw (← (c .before .before .before .packet-of .ensures), c .before .enum-told4 .given .1) (c .in-direction .ensures)
 
--- src/packets.rt:254:1
 returns-5 : tie.Need-returns-5
 unfolding permits
 returns-5 c = rw (← (c .before .before .before .packet-of .ensures), c .before .enum-told5 .given .1) (c .in-lamp .ensures)
 
--- src/packets.rt:254:1
 returns-6 : tie.Need-returns-6
 unfolding permits
 returns-6 c = rw (← (c .before .before .before .packet-of .ensures), c .before .enum-told6 .given .1) (c .in-stop .ensures)
 
--- src/packets.rt:254:1
 returns-7 : tie.Need-returns-7
 unfolding permits
 returns-7 c = rw (← (c .before .before .before .packet-of .ensures), c .before .enum-told7 .given .1) (c .in-cause .ensures)
 
--- src/packets.rt:254:1
 returns-8 : tie.Need-returns-8
 unfolding permits
 returns-8 c = rw (← (c .before .before .before .packet-of .ensures), c .before .enum-told8 .given .1) (c .in-mode .ensures)
 
--- src/packets.rt:254:1
 returns-9 : tie.Need-returns-9
 unfolding permits
 returns-9 c = rw (← (c .before .before .before .packet-of .ensures), c .before .enum-told9 .given .1) (c .in-watch .ensures)
 
--- src/packets.rt:254:1
 returns-10 : tie.Need-returns-10
 unfolding permits
 returns-10 c = rw (← (c .before .before .before .packet-of .ensures), c .before .enum-told10 .given .1) (c .in-effect .ensures)
 
--- src/packets.rt:254:1
 returns-11 : tie.Need-returns-11
 unfolding permits
 returns-11 c = rw (← (c .before .before .before .packet-of .ensures), c .before .enum-told11 .given .1) (c .in-sign .ensures)
 
--- src/packets.rt:254:1
 returns-12 : tie.Need-returns-12
 unfolding permits
 returns-12 c = rw (← (c .before .before .before .packet-of .ensures), c .before .enum-told12 .given .1) (c .in-country .ensures)
 
--- src/packets.rt:254:1
 returns-13 : tie.Need-returns-13
 unfolding permits
 returns-13 c = rw (← (c .before .before .before .packet-of .ensures), c .before .enum-told13 .given .1) (c .in-request .ensures)
 
--- src/packets.rt:254:1
 returns-14 : tie.Need-returns-14
 unfolding permits
 returns-14 c = rw (← (c .before .before .before .packet-of .ensures), c .before .enum-told14 .given .1) (c .in-approval .ensures)
 
--- src/packets.rt:254:1
 returns-15 : tie.Need-returns-15
 unfolding permits
 returns-15 c = rw (← (c .before .before .packet-of .ensures), c .enum-told15 .given .1)

@@ -1,31 +1,24 @@
+-- `values::values::body_of` meets its contract. Assumes nothing.
 use Rattle.values.specs.Values.{bodyOf}
-use borrow.Author.Tests.{eq-eqb, ne-eqb, le-ltb, lt-ltb}
+use borrow.Author.Tests.{eq-eqb, ne-eqb}
 use borrow.Author.Needs.{needs}
 use Rattle.values.proofs.values.body_of.Statement.{statement}
 use Rattle.values.proofs.values.body_of.Tie as tie
-use Rattle.values.proofs.values.body_of.Reads as reads
-use Rattle.values.proofs.values.body_of.Lts as lts
-use Rattle.values.proofs.packets.lead_of.Reads as lead-of-reads
 
--- src/values.rt:68:8
 lead-of-requires : tie.Need-lead-of-requires
 lead-of-requires c κs = search needs
 
--- src/values.rt:69:9
 returns : tie.Need-returns
 unfolding bodyOf
 returns c = rw (← (c .before .lead-of .ensures), eq-eqb _ _ (c .if1 .taken))
 
--- src/values.rt:71:28
 sub-result : tie.Need-sub-result
 sub-result c = search needs
 
--- src/values.rt:65:1
 returns-2 : tie.Need-returns-2
 unfolding bodyOf
 returns-2 c = rw (← (c .before .before .lead-of .ensures), ne-eqb _ _ (c .before .if1 .left), c .if2 .taken)
 
--- src/values.rt:65:1
 returns-3 : tie.Need-returns-3
 unfolding bodyOf
 returns-3 c = rw (← (c .before .before .lead-of .ensures), ne-eqb _ _ (c .before .if1 .left))

@@ -1,28 +1,21 @@
+-- `values::values::low_digit` meets its contract. Assumes nothing.
 use native.Mathlib.Omega.{arith}
-use Rattle.laws.proofs.Tests.{tests}
 use borrow.Author.Needs.{needs}
 use Rattle.values.proofs.values.low_digit.Statement.{statement}
 use Rattle.values.proofs.values.low_digit.Tie as tie
-use Rattle.values.proofs.values.low_digit.Reads as reads
-use Rattle.values.proofs.values.low_digit.Lts as lts
 
--- src/values.rt:32:10
 add-result : tie.Need-add-result
 add-result c = search needs
 
--- src/values.rt:32:9
 cast-result : tie.Need-cast-result
 cast-result c = search needs
 
--- src/values.rt:34:9
 cast-result-2 : tie.Need-cast-result-2
 cast-result-2 c = search needs
 
--- src/values.rt:28:1
 returns : tie.Need-returns
 returns c = rw (c .if1 .taken)
 
--- src/values.rt:28:1
 returns-2 : tie.Need-returns-2
 returns-2 c = rw (c .if1 .left) (omega arith)
 

@@ -1,20 +1,16 @@
-use Rattle.values.proofs.Texts.{empty}
+-- `values::values::permits_text` meets its contract. Assumes nothing.
+use Rattle.values.proofs.Texts.{empty, byte-good, byte-bad}
 use Rattle.laws.proofs.Truths.{not-true, not-false}
-use Rattle.values.proofs.Texts.{byte-good, byte-bad}
 use Rattle.values.specs.Values.{permitted, permittedFrom}
 use lib.Seq.{drop-length}
 use lib.ListN.{length, drop}
-use Prim.Native.Nat.{ℕ, _≤_, _<_, _+_, _-_, _%_}
+use Prim.Native.Nat.{_≤_, _-_}
 use borrow.Author.Needs.{needs}
 use denote.Ref.{now}
 use native.Mathlib.Omega.{arith}
-use mathlib.Core.Path.{_≡_, refl, sym, ap, _∙_}
+use mathlib.Core.Path.{_≡_, sym, _∙_}
 use Rattle.values.proofs.values.permits_text.Statement.{statement}
 use Rattle.values.proofs.values.permits_text.Tie as tie
-use Rattle.values.proofs.values.permits_text.Reads as reads
-use Rattle.values.proofs.values.permits_text.Lts as lts
-use Rattle.values.proofs.packets.permits_byte.Reads as permits-byte-reads
-use Rattle.forms.proofs.slices.byte_at.Reads as byte-at-reads
 
 abbrev Inv-loop : tie.InvT-loop
 Inv-loop line kind letter text last at₀ at = (at ≤ length text) × (permittedFrom line kind letter last at (drop at text) ≡ permitted line kind letter text)
@@ -22,52 +18,41 @@ Inv-loop line kind letter text last at₀ at = (at ≤ length text) × (permitte
 abbrev μ-loop : tie.MeasureT-loop
 μ-loop line kind letter text last at₀ at = length text - at
 
--- src/values.rt:107:9
 returns : tie.Need-returns Inv-loop μ-loop
 returns c = empty (now (c .before .before .args .text)) (c .before .before .args .line) (c .before .before .args .kind) (c .before .before .args .letter) (c .if1 .taken)
 
--- src/values.rt:109:30
 sub-byte-at : tie.Need-sub-byte-at Inv-loop μ-loop
 sub-byte-at c = omega arith
 
--- src/values.rt:109:9
 byte-at-requires : tie.Need-byte-at-requires Inv-loop μ-loop
 byte-at-requires c κs = search needs
 
--- src/values.rt:111:5
 loop-holds : tie.Need-loop-holds Inv-loop μ-loop
 unfolding permitted
 loop-holds c = (omega arith, rw (c .byte-at .ensures))
 
--- src/values.rt:112:56
 shared-slice-read-permits-byte : tie.Need-shared-slice-read-permits-byte Inv-loop μ-loop
 shared-slice-read-permits-byte c = search needs
 
--- src/values.rt:112:13
 permits-byte-requires : tie.Need-permits-byte-requires Inv-loop μ-loop
 permits-byte-requires c κs = search needs
 
--- src/values.rt:113:13
 returns-2 : tie.Need-returns-2 Inv-loop μ-loop
 returns-2 c =
     let a = c .before .before .before .before .before .before .before .before .args in let l = c .before .before .before .before .loop in
     sym (byte-bad (a .line) (a .kind) (a .letter) (c .before .before .before .before .before .byte-at .result) (l .at) (now (a .text)) (c .before .before .before .loop-test .taken) (sym (c .before .permits-byte .ensures) ∙ not-true _ (c .if2 .taken))) ∙ l .inv .1
 
--- src/values.rt:115:14
 add-at : tie.Need-add-at Inv-loop μ-loop
 add-at c = search needs
 
--- src/values.rt:111:5
 loop-less : tie.Need-loop-less Inv-loop μ-loop
 loop-less c = search needs
 
--- src/values.rt:111:5
 loop-again : tie.Need-loop-again Inv-loop μ-loop
 loop-again c =
     let a = c .before .before .before .before .before .before .before .before .args in let l = c .before .before .before .before .loop in
     (omega arith, sym (byte-good (a .line) (a .kind) (a .letter) (c .before .before .before .before .before .byte-at .result) (l .at) (now (a .text)) (c .before .before .before .loop-test .taken) (sym (c .before .permits-byte .ensures) ∙ not-false _ (c .if2 .left))) ∙ l .inv .1)
 
--- src/values.rt:103:1
 returns-3 : tie.Need-returns-3 Inv-loop μ-loop
 unfolding permittedFrom
 returns-3 c =

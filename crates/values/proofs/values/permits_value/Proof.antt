@@ -1,49 +1,36 @@
+-- `values::values::permits_value` meets its contract. Assumes nothing.
 use Rattle.values.specs.Values.{permitted, textOf, permitsValue}
 use lib.Seq.{length-take-le}
 use Prim.Native.Nat.{ℕ}
-use borrow.Author.Tests.{eq-eqb, ne-eqb, le-ltb, lt-ltb}
+use borrow.Author.Tests.{eq-eqb, ne-eqb}
 use native.Mathlib.Omega.{arith}
-use mathlib.Core.Path.{_≡_, refl, sym, ap, _∙_}
+use mathlib.Core.Path.{sym, ap, _∙_}
 use borrow.Author.Needs.{needs}
 use Rattle.values.proofs.values.permits_value.Statement.{statement}
 use Rattle.values.proofs.values.permits_value.Tie as tie
-use Rattle.values.proofs.values.permits_value.Reads as reads
-use Rattle.values.proofs.values.permits_value.Lts as lts
-use Rattle.values.proofs.packets.is_decimal.Reads as is-decimal-reads
-use Rattle.values.proofs.values.body_of.Reads as body-of-reads
-use Rattle.values.proofs.values.left_of.Reads as left-of-reads
-use Rattle.values.proofs.values.permits_in.Reads as permits-in-reads
 
--- src/values.rt:133:16
 is-decimal-requires : tie.Need-is-decimal-requires
 is-decimal-requires c κs = search needs
 
--- src/values.rt:133:36
 body-of-requires : tie.Need-body-of-requires
 body-of-requires c κs = search needs
 
--- src/values.rt:133:8
 left-of-requires : tie.Need-left-of-requires
 left-of-requires c κs = search needs
 
--- src/values.rt:134:9
 returns : tie.Need-returns
 unfolding permitsValue
 returns c = rw (← (c .before .before .before .is-decimal .ensures), ← (c .before .before .body-of .ensures), ← (c .before .left-of .ensures), ne-eqb _ _ (c .if1 .taken))
 
--- src/values.rt:137:16
 array-borrow-prefix-text : tie.Need-array-borrow-prefix-text
 array-borrow-prefix-text c = search needs
 
--- src/values.rt:137:16
 slice-aggregate-permits-in : tie.Need-slice-aggregate-permits-in
 slice-aggregate-permits-in c = sym (length-take-le (c .before .before .before .before .before .args .len) _ (omega arith))
 
--- src/values.rt:137:5
 permits-in-requires : tie.Need-permits-in-requires
 permits-in-requires c κs = search needs
 
--- src/values.rt:129:1
 returns-2 : tie.Need-returns-2
 unfolding permitsValue
 returns-2 c = rw (← (c .before .before .before .before .before .before .is-decimal .ensures), ← (c .before .before .before .before .before .body-of .ensures), ← (c .before .before .before .before .left-of .ensures), eq-eqb _ _ (c .before .before .before .if1 .left)) (c .before .permits-in .ensures ∙ ap (λ (w : ℕ). permitted (c .before .before .before .before .before .before .before .args .line) (c .before .before .before .before .before .before .before .args .kind) (c .before .before .before .before .before .before .before .args .letter) (textOf (c .before .before .before .before .before .before .before .args .letter) w (c .before .before .before .before .before .before .before .args .n))) (length-take-le (c .before .before .before .before .before .before .before .args .len) _ (omega arith)))

@@ -1,3 +1,4 @@
+-- `values::values::permits_values` meets its contract. Assumes nothing.
 use mathlib.Core.List.{[]}
 use Rattle.values.proofs.Texts.{value-good, value-bad}
 use Rattle.forms.proofs.Slots.{count-small, slots-end}
@@ -5,17 +6,12 @@ use Rattle.values.specs.Values.{permitsValues}
 use Rattle.forms.specs.Forms.{slotsIn, slotsOf}
 use lib.ListN.{drop}
 use Rattle.laws.proofs.Truths.{not-true, not-false}
-use Prim.Native.Nat.{ℕ, _≤_, _<_, _+_, _-_, _%_}
+use Prim.Native.Nat.{_≤_, _-_}
 use borrow.Author.Needs.{needs}
 use native.Mathlib.Omega.{arith}
-use borrow.Author.Tests.{eq-eqb, ne-eqb, le-ltb, lt-ltb}
-use mathlib.Core.Path.{_≡_, refl, sym, ap, _∙_}
+use mathlib.Core.Path.{_≡_, sym, _∙_}
 use Rattle.values.proofs.values.permits_values.Statement.{statement}
 use Rattle.values.proofs.values.permits_values.Tie as tie
-use Rattle.values.proofs.values.permits_values.Reads as reads
-use Rattle.values.proofs.values.permits_values.Lts as lts
-use Rattle.forms.proofs.table.count_of.Reads as count-of-reads
-use Rattle.values.proofs.values.permits_value.Reads as permits-value-reads
 
 abbrev Inv-loop : tie.InvT-loop
 Inv-loop line kind values letters lens count j₀ j = (count ≤ 10) × (j ≤ count) × (permitsValues line kind (slotsIn (count - j) (drop j letters) (drop j lens)) (drop j values) ≡ permitsValues line kind (slotsIn count letters lens) values)
@@ -23,58 +19,46 @@ Inv-loop line kind values letters lens count j₀ j = (count ≤ 10) × (j ≤ c
 abbrev μ-loop : tie.MeasureT-loop
 μ-loop line kind values letters lens count j₀ j = count - j
 
--- src/values.rt:152:9
 count-of-requires : tie.Need-count-of-requires Inv-loop μ-loop
 count-of-requires c κs = search needs
 
--- src/values.rt:154:5
 loop-holds : tie.Need-loop-holds Inv-loop μ-loop
 loop-holds c =
     let z : c .count-of .result - 0 ≡ c .count-of .result = omega arith in
     (omega (arith, c .count-of .ensures, count-small (c .before .before .before .args .form)), omega arith, rw z)
 
--- src/values.rt:155:39
 array-read-permits-value : tie.Need-array-read-permits-value Inv-loop μ-loop
 array-read-permits-value c = search needs
 
--- src/values.rt:155:51
 array-read-permits-value-2 : tie.Need-array-read-permits-value-2 Inv-loop μ-loop
 array-read-permits-value-2 c = search needs
 
--- src/values.rt:155:60
 mul-permits-value : tie.Need-mul-permits-value Inv-loop μ-loop
 mul-permits-value c = search needs
 
--- src/values.rt:155:60
 array-read-permits-value-3 : tie.Need-array-read-permits-value-3 Inv-loop μ-loop
 array-read-permits-value-3 c = search needs
 
--- src/values.rt:155:13
 permits-value-requires : tie.Need-permits-value-requires Inv-loop μ-loop
 permits-value-requires c κs = search needs
 
--- src/values.rt:156:13
 returns : tie.Need-returns Inv-loop μ-loop
 unfolding slotsOf
 returns c =
     let a = c .before .before .before .before .before .before .before .args in let l = c .before .before .before .loop in let n = c .before .before .before .before .count-of .result in
     sym (value-bad (a .line) (a .kind) (a .form .letters) (a .form .lens) (a .t4) n (l .j) (c .before .before .loop-test .taken) (sym (c .before .permits-value .ensures) ∙ not-true _ (c .if1 .taken))) ∙ l .inv .2 ∙ rw (c .before .before .before .before .count-of .ensures)
 
--- src/values.rt:158:13
 add-j : tie.Need-add-j Inv-loop μ-loop
 add-j c = search needs
 
--- src/values.rt:154:5
 loop-less : tie.Need-loop-less Inv-loop μ-loop
 loop-less c = search needs
 
--- src/values.rt:154:5
 loop-again : tie.Need-loop-again Inv-loop μ-loop
 loop-again c =
     let a = c .before .before .before .before .before .before .before .args in let l = c .before .before .before .loop in
     (l .inv .0, omega arith, sym (value-good (a .line) (a .kind) (a .form .letters) (a .form .lens) (a .t4) (c .before .before .before .before .count-of .result) (l .j) (c .before .before .loop-test .taken) (sym (c .before .permits-value .ensures) ∙ not-false _ (c .if1 .left))) ∙ l .inv .2)
 
--- src/values.rt:147:1
 returns-2 : tie.Need-returns-2 Inv-loop μ-loop
 unfolding slotsOf permitsValues
 returns-2 c =

@@ -1,45 +1,35 @@
+-- `values::values::put_packet` meets its contract. Assumes nothing.
 use Rattle.values.proofs.Texts.{behind-first, packet-first, packet-none}
 use Rattle.values.specs.Values.{textOf}
-use lib.ListN.{length, length-set}
+use lib.ListN.{length-set}
 use denote.Ref.{now}
 use native.Mathlib.Omega.{arith}
-use mathlib.Core.Path.{_≡_, refl, sym, ap, _∙_}
+use mathlib.Core.Path.{_∙_}
 use borrow.Author.Needs.{needs}
 use Rattle.values.proofs.values.put_packet.Statement.{statement}
 use Rattle.values.proofs.values.put_packet.Tie as tie
-use Rattle.values.proofs.values.put_packet.Reads as reads
-use Rattle.values.proofs.values.put_packet.Lts as lts
-use Rattle.values.proofs.values.put_value.Reads as put-value-reads
 
--- src/values.rt:96:9
 returns : tie.Need-returns
 returns c = packet-none (now (c .before .before .args .part)) (c .before .before .args .letter) (c .before .before .args .n) (c .if1 .taken)
 
--- src/values.rt:98:5
 slice-write-part : tie.Need-slice-write-part
 slice-write-part c = search needs
 
--- src/values.rt:99:15
 sub-put-value : tie.Need-sub-put-value
 sub-put-value c = simp length-set (omega arith)
 
--- src/values.rt:99:15
 part-put-value-start : tie.Need-part-put-value-start
 part-put-value-start c = simp length-set (omega arith)
 
--- src/values.rt:99:15
 part-put-value-end : tie.Need-part-put-value-end
 part-put-value-end c = search needs
 
--- src/values.rt:99:5
 put-value-requires : tie.Need-put-value-requires
 put-value-requires c κs = search needs
 
--- src/values.rt:92:1
 same-length : tie.Need-same-length
 same-length c = c .before .part .given .1 ∙ simp length-set
 
--- src/values.rt:92:1
 returns-2 : tie.Need-returns-2
 returns-2 c =
     let a = c .before .before .before .before .before .before .args in
