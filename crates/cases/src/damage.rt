@@ -1,9 +1,9 @@
 // Case h with every byte replaced by every value, and inputs of many lengths: what the rules give is written here by hand.
-ghost use Prim.Native.Nat.{_<_};
 use crate::show;
 use forms::refusals::number_of;
 use forms::refusals::place_of;
 use forms::slices::part;
+use forms::slices::wide;
 use telegram::answers::Reading;
 use telegram::reading::read;
 
@@ -100,20 +100,14 @@ fn due_when_right(index: usize, b: u8) -> Due {
     }
 }
 
-fn hex_digit(n: u32) -> u8 {
+fn hex_digit(n: usize) -> u8 {
     let d = (n % 16) as u8;
     if d < 10 { b'0' + d } else { b'A' + (d - 10) }
 }
 
-fn wide(b: u8) -> u32
-    ensures { λ r. ⌜ r < 256 ⌝ }
-{
-    b as u32
-}
-
 // The two characters that make the sum zero.
 fn with_sum(mut t: [u8; 23]) -> [u8; 23] {
-    let mut sum: u32 = 0;
+    let mut sum: usize = 0;
     for i in 1..20 {
         sum = (sum + wide(t[i])) % 256;
     }

@@ -1,6 +1,6 @@
 // Reading a slice at any place: no caller need look first.
 ghost use mathlib.Core.Path.{_≡_};
-ghost use Prim.Native.Nat.{_-_};
+ghost use Prim.Native.Nat.{_-_, _<_};
 ghost use lib.ListN.{take, drop, getD};
 
 // The byte at a place, 0 past the end.
@@ -30,4 +30,11 @@ pub fn less(n: usize, k: usize) -> usize
     ensures { λ r. ⌜ r ≡ n - k ⌝ }
 {
     if n < k { 0 } else { n - k }
+}
+
+// A byte as a number of bytes, to be added to others.
+pub fn wide(n: u8) -> usize
+    ensures { λ r. ⌜ (r ≡ n) × (r < 256) ⌝ }
+{
+    n as usize
 }

@@ -1,8 +1,9 @@
 // The telegram forms (01 'Telegram forms', 'The three lines and both ends'), one row each, and what they say of a line.
 ghost use mathlib.Core.Path.{_≡_};
-ghost use Prim.Native.Nat.{_<_, _≤_};
+ghost use Prim.Native.Nat.{_≤_};
 ghost use lib.ListN.{getD};
 ghost use Rattle.forms.specs.Forms.{forms, none, isLine, onLine, formOf, byMaster, bySlave, dataType, countOf, widthOf};
+use crate::slices::wide;
 
 // A form: its type, the lines it is on, whether the master sends it (else the slave does), and its packets' letters and value lengths.
 pub struct Form {
@@ -259,13 +260,6 @@ pub fn data_type(line: u8) -> u8
         i = i + 1;
     }
     0
-}
-
-// A number of bytes that is added to others.
-fn wide(n: u8) -> usize
-    ensures { λ r. ⌜ (r ≡ n) × (r < 256) ⌝ }
-{
-    n as usize
 }
 
 // How many packets a form has, at most ten.

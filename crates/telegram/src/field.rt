@@ -1,26 +1,19 @@
 // The data field: checks 9 to 11 (01 'Numbered answers').
 ghost use mathlib.Core.Path.{_≡_};
-ghost use Prim.Native.Nat.{_≤_};
 ghost use Rattle.forms.specs.Forms.{slotsOf};
 ghost use Rattle.telegram.specs.Field.{outside, wrongLetter, badValue, misshapen};
 use crate::answers::Spot;
 use forms::characters::in_set;
 use forms::slices::byte_at;
 use forms::slices::part;
+use forms::slices::wide;
 use forms::table::Form;
 use forms::table::count_of;
 use forms::table::width_of;
 use values::values::permits_text;
 
-// A number of bytes that is added to others.
-pub fn wide(n: u8) -> usize
-    ensures { λ r. ⌜ (r ≡ n) × (r ≤ 255) ⌝ }
-{
-    n as usize
-}
-
 // Check 9: the first byte outside the set.
-pub fn outside_set(field: &[u8]) -> Spot
+pub(crate) fn outside_set(field: &[u8]) -> Spot
     ensures { λ r. ⌜ r ≡ outside 5 (now (field .entry)) ⌝ }
 {
     let mut i: usize = 0;
@@ -53,7 +46,7 @@ fn wrong_letter(field: &[u8], form: Form) -> Spot
 }
 
 // Check 10: data field of another length, or a packet letter wrong.
-pub fn wrong_form(field: &[u8], form: Form) -> Spot
+pub(crate) fn wrong_form(field: &[u8], form: Form) -> Spot
     ensures { λ r. ⌜ r ≡ misshapen form (now (field .entry)) ⌝ }
 {
     if field.len() == width_of(form) {
@@ -64,7 +57,7 @@ pub fn wrong_form(field: &[u8], form: Form) -> Spot
 }
 
 // Check 11: the letter of the first packet whose value is not permitted.
-pub fn bad_value(line: u8, kind: u8, field: &[u8], form: Form) -> Spot
+pub(crate) fn bad_value(line: u8, kind: u8, field: &[u8], form: Form) -> Spot
     ensures { λ r. ⌜ r ≡ badValue line kind 5 (slotsOf form) (now (field .entry)) ⌝ }
 {
     let letters = form.letters;

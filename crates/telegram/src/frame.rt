@@ -26,14 +26,14 @@ fn is_two(s: &[u8], at: usize, high: u8, low: u8) -> bool
 }
 
 // The byte count of a telegram of n bytes, as two decimal digits: the high one,
-pub fn count_high(n: usize) -> u8
+pub(crate) fn count_high(n: usize) -> u8
     ensures { λ r. ⌜ r ≡ 48 + (n - 2) / 10 % 10 ⌝ }
 {
     (48 + less(n, 2) / 10 % 10) as u8
 }
 
 // and the low one.
-pub fn count_low(n: usize) -> u8
+pub(crate) fn count_low(n: usize) -> u8
     ensures { λ r. ⌜ r ≡ 48 + (n - 2) % 10 ⌝ }
 {
     (48 + less(n, 2) % 10) as u8

@@ -10,7 +10,6 @@ ghost use Rattle.telegram.specs.Frame.{countText, frameOf, headText, tai
 ghost use Rattle.telegram.specs.Field.{dataOf};
 ghost use Rattle.telegram.specs.Writing.{writingOf};
 use crate::answers::Writing;
-use crate::field::wide;
 use crate::frame::count_high;
 use crate::frame::count_low;
 use forms::checksum::checksum;
@@ -19,6 +18,7 @@ use forms::records::Record;
 use forms::records::type_of;
 use forms::records::values_of;
 use forms::refusals::Refusal;
+use forms::slices::wide;
 use forms::table::Form;
 use forms::table::count_of;
 use forms::table::form_of;
