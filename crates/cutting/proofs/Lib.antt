@@ -8,3 +8,4 @@ pub mod Ranges
 pub mod Held
 pub mod Hits
 pub mod Agree
+pub mod Answers

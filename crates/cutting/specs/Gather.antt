@@ -1,6 +1,6 @@
 -- Gathering a telegram item by item (01 'Cutting the stream'). Assumes nothing.
 use Prim.Native.Nat.{ℕ, _+_}
-use mathlib.Core.Bool.{Bool, true, false}
+use mathlib.Core.Bool.{cond}
 use lib.Dec.{ltb}
 use lib.ListN.{set, replicate}
 use Rattle.forms.specs.Refusals.{numberOf, placeOf}
@@ -46,10 +46,6 @@ abbrev pub heardOf : Gatherer → Heard → Gatherer × Cut
 heardOf g (Byte byte) = turned g byte (turnOf (g .len) byte)
 heardOf g Hit = (shut g, none)
 
-abbrev pub pickCut : Bool → Gatherer × Cut → Gatherer × Cut → Gatherer × Cut
-pickCut true a b = a
-pickCut false a b = b
-
 -- 15 where the state is out of its ranges, which stays as it was
 unfoldable pub gatherOf : Gatherer → Heard → Gatherer × Cut
-gatherOf g item = pickCut (ltb 65 (g .len)) (g, refuses 15 0) (heardOf g item)
+gatherOf g item = cond (ltb 65 (g .len)) (g, refuses 15 0) (heardOf g item)

@@ -1,6 +1,6 @@
 -- The search for the next telegram in bytes (01 'Cutting the stream'). Assumes nothing.
 use Prim.Native.Nat.{ℕ, _+_, _-_}
-use mathlib.Core.Bool.{Bool, true, false}
+use mathlib.Core.Bool.{cond}
 use mathlib.Core.List.{List, [], _∷_}
 use lib.ListN.{length, take, drop}
 use Rattle.forms.specs.Refusals.{numberOf, placeOf}
@@ -53,10 +53,6 @@ cuttingOf (c.the-variants.Read start end reading) = reads start end (answerOf re
 cuttingOf c.the-variants.Nothing = none
 cuttingOf (c.the-variants.Refused x) = refuses (numberOf x) (placeOf x)
 
-abbrev pub pickNext : Bool → Next → Next → Next
-pickNext true a b = a
-pickNext false a b = b
-
 -- a cut telegram is then read
 abbrev pub readAt : ℕ → List ℕ → Span → Next
 readAt line s (Found start end) = reads start end (readingOf line (partOf s (Found start end)))
@@ -64,4 +60,4 @@ readAt line s Nothing = none
 
 -- 15 comes before all
 unfoldable pub nextOf : ℕ → List ℕ → ℕ → Next
-nextOf line s from = pickNext (isLine line) (readAt line s (spanOf s from)) (refuses 15 0)
+nextOf line s from = cond (isLine line) (readAt line s (spanOf s from)) (refuses 15 0)
