@@ -1,0 +1,5 @@
+pub mod Puts
+pub mod Counts
+pub mod Tails
+pub mod Spans
+pub mod Listings

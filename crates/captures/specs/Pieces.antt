@@ -1,0 +1,100 @@
+-- The lines of a capture (01 'Bench cases'), and what is kept of a piece of it for the next. Assumes nothing.
+use Prim.Native.Nat.{ℕ, zero, suc, _+_, _-_, _%_, _^_, max}
+use mathlib.Core.Bool.{Bool, true, false, cond}
+use mathlib.Core.List.{List, [], _∷_, _++_}
+use lib.Dec.{leb}
+use lib.ListN.{length, take, drop}
+use Rattle.laws.specs.Truth.{from}
+use Rattle.laws.specs.Text.{codes}
+use Rattle.forms.specs.Forms.{isLine}
+use Rattle.telegram.specs.Answers.{Outcome, wrote, refusesTo}
+use Rattle.telegram.specs.Frame.{lf}
+use Rattle.telegram.specs.Reading.{readingOf}
+use Rattle.cutting.specs.declared.search.Span.{Span}
+use Rattle.cutting.specs.declared.search.Span.the-variants.{Found, Nothing}
+use Rattle.cutting.specs.Search.{spanOf, partOf}
+use Rattle.captures.specs.declared.pieces.Step as step
+use Rattle.captures.specs.declared.pieces.Listed.{Listed}
+use Rattle.captures.specs.Numbers.{puts}
+use Rattle.captures.specs.Lines.{lineText, lineRoom, putting}
+
+-- what a search finds, before what later searches find from its end on
+abbrev pub spanning : Span → (ℕ → List (ℕ × ℕ)) → List (ℕ × ℕ)
+spanning (Found start end) later = (start, end) ∷ later end
+spanning Nothing later = []
+
+-- the starts and ends of the telegrams that at most n searches find, each from the end of the last
+unfoldable pub spansOn : ℕ → List ℕ → ℕ → List (ℕ × ℕ)
+spansOn zero s place = []
+spansOn (suc n) s place = spanning (spanOf s place) (spansOn n s)
+
+-- as many searches as there are bytes are enough
+unfoldable pub spansOf : List ℕ → ℕ → List (ℕ × ℕ)
+spansOf s place = spansOn (length s) s place
+
+-- ordinals and offsets are 64-bit numbers
+abbrev pub wrapped : ℕ → ℕ
+wrapped n = n % 2 ^ 64
+
+-- the line of the telegram from start to end of s, which begins at an offset of its own
+unfoldable pub lineAt : ℕ → ℕ → ℕ → List ℕ → ℕ × ℕ → List ℕ
+lineAt line ordinal base s (start, end) = lineText ordinal (wrapped (base + start)) (readingOf line (partOf s (Found start end)))
+
+unfoldable pub linesIn : ℕ → ℕ → ℕ → List ℕ → List (ℕ × ℕ) → List ℕ
+linesIn line ordinal base s [] = []
+linesIn line ordinal base s (p ∷ ps) = lineAt line ordinal base s p ++ linesIn line (wrapped (ordinal + 1)) base s ps
+
+-- the lines of the telegrams that repeated searching finds in s from a place on
+unfoldable pub linesOf : ℕ → ℕ → ℕ → List ℕ → ℕ → List ℕ
+linesOf line ordinal base s place = linesIn line ordinal base s (spansOf s place)
+
+-- the line that a capture's first byte names, 0 where it names none, and what is printed then
+unfoldable pub lineDigit : ℕ → ℕ
+lineDigit digit = cond (from 49 51 digit) (digit - 48) 0
+
+abbrev pub badLine : List ℕ
+badLine = codes "no 15 0" ++ (lf ∷ [])
+
+-- what the program prints for a whole input: ordinals from 1, offsets from 0 after the digit
+unfoldable pub listingOf : List ℕ → List ℕ
+listingOf [] = badLine
+listingOf (digit ∷ s) = cond (isLine (lineDigit digit)) (linesOf (lineDigit digit) 1 0 s 0) badLine
+
+-- the line of the next telegram, from the front of an output
+abbrev pub stepFor : ℕ → Outcome → step.Step
+stepFor end (wrote n) = step.the-variants.Line end n
+stepFor end (refusesTo number place) = step.the-variants.Full
+
+abbrev pub stepAt : ℕ → ℕ → ℕ → List ℕ → Span → List ℕ → step.Step × List ℕ
+stepAt line ordinal base s (Found start end) out =
+    (stepFor end (putting (lineAt line ordinal base s (start, end)) out .0), putting (lineAt line ordinal base s (start, end)) out .1)
+stepAt line ordinal base s Nothing out = (step.the-variants.Nothing, out)
+
+unfoldable pub stepOf : ℕ → ℕ → ℕ → List ℕ → ℕ → List ℕ → step.Step × List ℕ
+stepOf line ordinal base s place out = stepAt line ordinal base s (spanOf s place) out
+
+-- how far a listing got
+abbrev pub stopped : ℕ → ℕ → ℕ → Bool → Listed
+stopped place ordinal filled done = record { next = place; ordinal = ordinal; filled = filled; done = done }
+
+-- the lines of telegrams, put into an output behind so many bytes of lines, while it has room for any line
+unfoldable pub listedIn : ℕ → ℕ → List ℕ → List (ℕ × ℕ) → ℕ → ℕ → ℕ → List ℕ → Listed × List ℕ
+listedIn line base s [] place ordinal filled out = (stopped place ordinal filled true, out)
+listedIn line base s ((start, end) ∷ ps) place ordinal filled out =
+    cond (leb lineRoom (length out - filled))
+    (listedIn line base s ps end (wrapped (ordinal + 1)) (filled + length (lineAt line ordinal base s (start, end))) (puts (lineAt line ordinal base s (start, end)) filled out .1))
+    (stopped place ordinal filled false, out)
+
+unfoldable pub listPart : ℕ → ℕ → ℕ → List ℕ → ℕ → List ℕ → Listed × List ℕ
+listPart line ordinal base s place out = listedIn line base s (spansOf s place) place ordinal 0 out
+
+-- where the bytes begin that are kept for the next piece: behind the last telegram, and an unfinished one has at most 65
+abbrev pub keptFrom : ℕ → ℕ → ℕ
+keptFrom end len = max end (len - 65)
+
+-- the bytes from a place up to an end, put to the front, with what lies behind them kept
+abbrev pub tailOf : ℕ → ℕ → List ℕ → List ℕ
+tailOf place end s = take (end - place) (drop place s)
+
+unfoldable pub tailPut : ℕ → ℕ → List ℕ → ℕ × List ℕ
+tailPut place end s = puts (tailOf place end s) 0 s

@@ -1,0 +1,100 @@
+// The listing program (01 'Bench cases'): lists the telegrams of standard input. Only the calls of read and write lie outside what is proved.
+use captures::pieces::Listed;
+use captures::pieces::bad_line;
+use captures::pieces::keep_tail;
+use captures::pieces::kept_from;
+use captures::pieces::line_of;
+use captures::pieces::list_part;
+use forms::slices::part;
+use libc::STDIN_FILENO;
+use libc::STDOUT_FILENO;
+
+// Where the program stands between two pieces: how many bytes are kept, the next ordinal, the offset of the first byte, and whether to go on.
+struct Place {
+    kept: usize,
+    ordinal: u64,
+    base: u64,
+    more: bool,
+}
+
+// Writes the lines of one piece, an output full of them at a time; a write that fails leaves it not done. Each turn but the last passes a telegram.
+fn list_piece(line: u8, ordinal: u64, base: u64, s: &[u8], out: &mut [u8]) -> Listed {
+    let mut listed = Listed {
+        next: 0,
+        ordinal,
+        filled: 0,
+        done: false,
+    };
+    let mut turns = s.len();
+    while turns > 0 {
+        listed = list_part(line, listed.ordinal, base, s, listed.next, out);
+        if !io::write_all(STDOUT_FILENO, part(out, 0, listed.filled)) {
+            return Listed {
+                next: listed.next,
+                ordinal: listed.ordinal,
+                filled: 0,
+                done: false,
+            };
+        }
+        if listed.done {
+            return listed;
+        }
+        turns = turns - 1;
+    }
+    listed
+}
+
+// Reads a piece behind the bytes that are kept, and lists it.
+fn list_more(line: u8, place: Place, buf: &mut [u8], out: &mut [u8]) -> Place {
+    let kept = place.kept;
+    let stop = Place {
+        kept,
+        ordinal: place.ordinal,
+        base: place.base,
+        more: false,
+    };
+    if buf.len() <= kept {
+        return stop;
+    }
+    let got = libc::read(STDIN_FILENO, &mut buf[kept..]);
+    if got <= 0 {
+        return stop;
+    }
+    let n = kept + io::count(got, &buf[kept..]);
+    let listed = list_piece(line, place.ordinal, place.base, part(buf, 0, n), out);
+    let from = kept_from(listed.next, n);
+    Place {
+        kept: keep_tail(buf, from, n),
+        ordinal: listed.ordinal,
+        base: std::num::wrapping_add_u64(place.base, from as u64),
+        more: listed.done,
+    }
+}
+
+// Lists piece after piece. A proved loop has to end, so it counts its turns down, from a number that no run uses up.
+fn list_all(line: u8, buf: &mut [u8], out: &mut [u8]) {
+    let mut place = Place {
+        kept: 0,
+        ordinal: 1,
+        base: 0,
+        more: true,
+    };
+    let mut turns = u64::MAX;
+    while turns > 0 && place.more {
+        place = list_more(line, place, buf, out);
+        turns = turns - 1;
+    }
+}
+
+fn main() {
+    let mut first = [0u8; 1];
+    libc::read(STDIN_FILENO, &mut first);
+    let line = line_of(first[0]);
+    if line == 0 {
+        io::write_all(STDOUT_FILENO, &bad_line());
+        return;
+    }
+    let mut buf = [0u8; 131072];
+    let mut out = [0u8; 65536];
+    list_all(line, &mut buf, &mut out);
+}
