@@ -1,0 +1,67 @@
+//! Writes a capture of so many MiB, the line digit included, to standard output for timing the
+//! listing program of document 01; quiet is mostly bytes outside telegrams, busy is telegrams.
+
+use host::making::{any_form, damaged};
+use host::random::Random;
+use std::io::Write;
+use std::process::ExitCode;
+
+const MIB: usize = 1 << 20;
+
+/// The next bytes of a capture.
+fn piece(random: &mut Random, line: u8, busy: bool) -> Vec<u8> {
+    if !busy {
+        let length = random.from_to(2000, 6000);
+        let mut bytes: Vec<u8> = (0..length).map(|_| random.byte() | 0x80).collect();
+        bytes.extend(any_form(random, line));
+        bytes
+    } else if random.one_in(50) {
+        damaged(random, line)
+    } else {
+        any_form(random, line)
+    }
+}
+
+/// Writes the line digit and then pieces until so many bytes are out.
+fn write_capture(line: u8, mut left: usize, seed: u64, busy: bool) -> std::io::Result<()> {
+    let mut random = Random::seeded(seed);
+    let mut output = std::io::BufWriter::with_capacity(MIB, std::io::stdout().lock());
+    let mut bytes = vec![b'0' + line];
+    while left > 0 {
+        let part = bytes.get(..left).unwrap_or(&bytes);
+        output.write_all(part)?;
+        left -= part.len();
+        bytes = piece(&mut random, line, busy);
+    }
+    output.flush()
+}
+
+/// The line, MiB, seed and busyness of the arguments.
+fn arguments() -> Option<(u8, usize, u64, bool)> {
+    let words: Vec<String> = std::env::args().skip(1).collect();
+    let [line, mebibytes, seed, kind] = words.as_slice() else {
+        return None;
+    };
+    let line = line.parse().ok().filter(|line| matches!(line, 1..=3))?;
+    let length = mebibytes.parse::<usize>().ok()?.checked_mul(MIB)?;
+    let busy = match kind.as_str() {
+        "busy" => true,
+        "quiet" => false,
+        _ => return None,
+    };
+    Some((line, length, seed.parse().ok()?, busy))
+}
+
+fn main() -> ExitCode {
+    let Some((line, length, seed, busy)) = arguments() else {
+        eprintln!("usage: capture LINE MIB SEED quiet|busy");
+        return ExitCode::FAILURE;
+    };
+    match write_capture(line, length, seed, busy) {
+        Ok(()) => ExitCode::SUCCESS,
+        Err(error) => {
+            eprintln!("capture: {error}");
+            ExitCode::FAILURE
+        }
+    }
+}
