@@ -6,7 +6,7 @@ mod running;
 use host::exchange::exchange;
 use host::making::{any_form, capture, framed, noise, of_form, seal, DAMAGES};
 use host::random::Random;
-use host::reading::{forms_on, CR, FORMS, LF};
+use host::reading::{forms_on, FORMS};
 use running::{compare, compare_from_file, on_line, SAMPLE};
 
 /// The number of lines of a listing that hold some words.
