@@ -1,13 +1,14 @@
--- The number of a number's decimal digits. Assumes nothing.
+-- The number of a number's decimal digits, and what the digits say. Assumes nothing.
 use mathlib.Core.Path.{_≡_, refl, ap}
-use mathlib.Core.Bool.{Bool, true, false, cond}
-use Prim.Native.Nat.{ℕ, zero, suc, _+_, _*_, _/_, _≤_, _<_}
+use mathlib.Core.Bool.{true}
+use mathlib.Core.List.{List, [], _∷_}
+use Prim.Native.Char.{code}
+use Prim.Native.Nat.{ℕ, zero, suc, _+_, _*_, _/_, _%_, _≤_, _<_}
 use native.Mathlib.Omega.{arith}
-use lib.Dec.{ltb}
-use lib.ListN.{length}
+use lib.ListN.{length, getD}
 use borrow.Author.Tests.{lt-ltb, le-ltb}
-use Rattle.laws.specs.Numerals.{numeral}
-use Rattle.laws.proofs.Digits.{numeral-length}
+use Rattle.laws.specs.Numerals.{leftOf, numberOn, numeralOn}
+use Rattle.laws.proofs.Digits.{numeral-length, number-numeral}
 use Rattle.cutting.proofs.Openings.{order}
 use Rattle.captures.specs.Numbers.{countOn, digitCount, decimalText}
 
@@ -49,3 +50,24 @@ at-most-twenty n h = few 19 n (omega arith)
 pub decimal-length : (n : ℕ) → length (decimalText n) ≡ digitCount n
 unfolding decimalText
 decimal-length n = numeral-length true (digitCount n) n
+
+-- nothing is left of a number when its digits are taken, so they say the number
+nothing-left : (k n : ℕ) → n ≤ k → leftOf true (digitCount n) n ≡ 0
+unfolding leftOf
+nothing-left zero n h = rw (count-small n (omega arith)) (omega arith)
+nothing-left (suc k) n h = order n 10 (λ l. rw (count-small n l) (omega arith)) (λ m. rw (count-more n m) (nothing-left k (n / 10) (omega arith)))
+
+pub decimal-says : (n : ℕ) → numberOn true 0 (decimalText n) ≡ n
+unfolding decimalText
+decimal-says n = number-numeral true (digitCount n) n (nothing-left n n (omega arith))
+
+-- and the first is no 0, but that of the number 0
+first-digit : (k n : ℕ) (t : List ℕ) → n ≤ k → 0 < n → code "0" < getD (numeralOn true (digitCount n) n t) 0 0
+unfolding numeralOn
+first-digit zero n t h z = let y : ⊥ = omega arith in absurd y
+first-digit (suc k) n t h z =
+    order n 10 (λ l. rw (count-small n l) (omega arith)) (λ m. rw (count-more n m) (first-digit k (n / 10) ((48 + n % 10) ∷ t) (omega arith) (omega arith)))
+
+pub no-leading-zero : (n : ℕ) → 0 < n → code "0" < getD (decimalText n) 0 0
+unfolding decimalText
+no-leading-zero n h = first-digit n n [] (omega arith) h

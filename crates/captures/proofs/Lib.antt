@@ -3,3 +3,8 @@ pub mod Counts
 pub mod Tails
 pub mod Spans
 pub mod Listings
+pub mod Shifts
+pub mod Whole
+pub mod Runs
+pub mod Filled
+pub mod Example

@@ -1,12 +1,12 @@
 -- One turn of the listing: a line is put, has no room, or none is left. Assumes nothing.
-use mathlib.Core.Path.{_≡_, refl, sym, ap, ap₂, _∙_}
+use mathlib.Core.Path.{_≡_, refl, sym, ap, _∙_}
 use mathlib.Core.Bool.{Bool, true, false, cond}
-use mathlib.Core.List.{List, [], _∷_, _++_, append-nil}
+use mathlib.Core.List.{List, [], _++_, append-nil}
 use Prim.Native.Nat.{ℕ, _+_, _-_, _≤_, _<_}
 use native.Mathlib.Omega.{arith}
 use lib.Dec.{leb}
 use native.Mathlib.Nat.{add-zero}
-use lib.ListN.{length, take, drop, take-append-drop, length-append, length-drop, drop-of-length-le}
+use lib.ListN.{length, drop, take-append-drop, length-append, length-drop, drop-of-length-le}
 use lib.Seq.{take-all, drop-drop}
 use borrow.Rule.Slice.PartMut.{putMid, midOf}
 use Rattle.telegram.specs.Answers.{Outcome, wrote, refusesTo, answerOf, outcomeOf}
@@ -18,10 +18,9 @@ use Rattle.cutting.specs.declared.search.Span.{Span}
 use Rattle.cutting.specs.declared.search.Span.the-variants.{Found, Nothing}
 use Rattle.cutting.specs.Search.{spanOf, partOf}
 use Rattle.captures.specs.declared.pieces.Step as step
-use Rattle.captures.specs.declared.pieces.Listed.{Listed}
 use Rattle.captures.specs.Numbers.{puts}
-use Rattle.captures.specs.Lines.{lineText, lineRoom, putting, linePut}
-use Rattle.captures.specs.Pieces.{spanning, spansOf, wrapped, lineAt, stepFor, stepAt, stepOf, stopped, listedIn}
+use Rattle.captures.specs.Lines.{lineRoom, putting, linePut}
+use Rattle.captures.specs.Pieces.{spansOf, wrapped, lineAt, stepFor, stepAt, stepOf, stopped, listedIn}
 use Rattle.captures.proofs.Spans.{found-within, spans-step}
 
 -- what putting a telegram's line does

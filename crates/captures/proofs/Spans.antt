@@ -1,7 +1,7 @@
 -- The telegrams that repeated searching finds, one search after the other. Assumes nothing.
 use mathlib.Core.Path.{_≡_, refl, ap}
-use mathlib.Core.List.{List, [], _∷_}
-use Prim.Native.Nat.{ℕ, zero, suc, _+_, _≤_, _<_}
+use mathlib.Core.List.{List, _∷_}
+use Prim.Native.Nat.{ℕ, zero, suc, _+_, _≤_}
 use native.Mathlib.Omega.{arith}
 use lib.ListN.{length}
 use Rattle.cutting.specs.declared.search.Span.{Span}
@@ -23,7 +23,7 @@ unfolding spanOf
 none-behind s place h = none-left s 0 place h
 
 -- as many searches as there are bytes left are enough
-enough : (n m : ℕ) (s : List ℕ) (place : ℕ) → length s ≤ place + n → length s ≤ place + m → spansOn n s place ≡ spansOn m s place
+pub enough : (n m : ℕ) (s : List ℕ) (place : ℕ) → length s ≤ place + n → length s ≤ place + m → spansOn n s place ≡ spansOn m s place
 unfolding spansOn
 enough zero zero s place h g = refl
 enough zero (suc m) s place h g = rw (none-behind s place (omega arith))

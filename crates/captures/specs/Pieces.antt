@@ -1,5 +1,6 @@
 -- The lines of a capture (01 'Bench cases'), and what is kept of a piece of it for the next. Assumes nothing.
 use Prim.Native.Nat.{ℕ, zero, suc, _+_, _-_, _%_, _^_, max}
+use Prim.Native.Char.{code}
 use mathlib.Core.Bool.{Bool, true, false, cond}
 use mathlib.Core.List.{List, [], _∷_, _++_}
 use lib.Dec.{leb}
@@ -50,7 +51,7 @@ linesOf line ordinal base s place = linesIn line ordinal base s (spansOf s place
 
 -- the line that a capture's first byte names, 0 where it names none, and what is printed then
 unfoldable pub lineDigit : ℕ → ℕ
-lineDigit digit = cond (from 49 51 digit) (digit - 48) 0
+lineDigit digit = cond (from (code "1") (code "3") digit) (digit - code "0") 0
 
 abbrev pub badLine : List ℕ
 badLine = codes "no 15 0" ++ (lf ∷ [])

@@ -2,3 +2,4 @@
 pub mod lines;
 pub mod numbers;
 pub mod pieces;
+pub mod places;

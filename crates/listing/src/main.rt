@@ -5,38 +5,24 @@ use captures::pieces::keep_tail;
 use captures::pieces::kept_from;
 use captures::pieces::line_of;
 use captures::pieces::list_part;
+use captures::places::Place;
 use forms::slices::part;
 use libc::STDIN_FILENO;
 use libc::STDOUT_FILENO;
 
-// Where the program stands between two pieces: how many bytes are kept, the next ordinal, the offset of the first byte, and whether to go on.
-struct Place {
-    kept: usize,
-    ordinal: u64,
-    base: u64,
-    more: bool,
-}
-
-// Writes the lines of one piece, an output full of them at a time; a write that fails leaves it not done. Each turn but the last passes a telegram.
-fn list_piece(line: u8, ordinal: u64, base: u64, s: &[u8], out: &mut [u8]) -> Listed {
+// Writes the lines of one piece, an output full of them at a time; it is not done where a write fails. Each turn but the last passes a telegram.
+fn list_piece(line: u8, place: Place, s: &[u8], out: &mut [u8]) -> Listed {
     let mut listed = Listed {
         next: 0,
-        ordinal,
+        ordinal: place.ordinal,
         filled: 0,
         done: false,
     };
     let mut turns = s.len();
-    while turns > 0 {
-        listed = list_part(line, listed.ordinal, base, s, listed.next, out);
+    while turns > 0 && !listed.done {
+        listed = list_part(line, listed.ordinal, place.base, s, listed.next, out);
         if !io::write_all(STDOUT_FILENO, part(out, 0, listed.filled)) {
-            return Listed {
-                next: listed.next,
-                ordinal: listed.ordinal,
-                filled: 0,
-                done: false,
-            };
-        }
-        if listed.done {
+            listed.done = false;
             return listed;
         }
         turns = turns - 1;
@@ -44,41 +30,25 @@ fn list_piece(line: u8, ordinal: u64, base: u64, s: &[u8], out: &mut [u8]) -> Li
     listed
 }
 
-// Reads a piece behind the bytes that are kept, and lists it.
+// Reads a piece behind the bytes that are kept, and lists both.
 fn list_more(line: u8, place: Place, buf: &mut [u8], out: &mut [u8]) -> Place {
     let kept = place.kept;
-    let stop = Place {
-        kept,
-        ordinal: place.ordinal,
-        base: place.base,
-        more: false,
-    };
     if buf.len() <= kept {
-        return stop;
+        return place.end();
     }
     let got = libc::read(STDIN_FILENO, &mut buf[kept..]);
     if got <= 0 {
-        return stop;
+        return place.end();
     }
     let n = kept + io::count(got, &buf[kept..]);
-    let listed = list_piece(line, place.ordinal, place.base, part(buf, 0, n), out);
-    let from = kept_from(listed.next, n);
-    Place {
-        kept: keep_tail(buf, from, n),
-        ordinal: listed.ordinal,
-        base: std::num::wrapping_add_u64(place.base, from as u64),
-        more: listed.done,
-    }
+    let listed = list_piece(line, place, part(buf, 0, n), out);
+    keep_tail(buf, kept_from(listed.next, n), n);
+    place.behind(listed, n)
 }
 
 // Lists piece after piece. A proved loop has to end, so it counts its turns down, from a number that no run uses up.
 fn list_all(line: u8, buf: &mut [u8], out: &mut [u8]) {
-    let mut place = Place {
-        kept: 0,
-        ordinal: 1,
-        base: 0,
-        more: true,
-    };
+    let mut place = Place::start();
     let mut turns = u64::MAX;
     while turns > 0 && place.more {
         place = list_more(line, place, buf, out);

@@ -11,6 +11,9 @@ Inv-loop line buf₀ out₀ place₀ turns₀ buf out place turns = (length buf 
 abbrev μ-loop : tie.MeasureT-loop
 μ-loop line buf₀ out₀ place₀ turns₀ buf out place turns = turns
 
+start-requires : tie.Need-start-requires Inv-loop μ-loop
+start-requires c κs = search needs
+
 loop-holds : tie.Need-loop-holds Inv-loop μ-loop
 loop-holds c = search needs
 
@@ -50,6 +53,7 @@ list-all-spec =
     (tie.spec
     Inv-loop
     μ-loop
+    start-requires
     loop-holds
     list-more-requires
     sub-turns

@@ -6,10 +6,10 @@ use Rattle.listing.proofs.list_piece.Statement.{statement}
 use Rattle.listing.proofs.list_piece.Tie as tie
 
 abbrev Inv-loop : tie.InvT-loop
-Inv-loop line ordinal base s out₀ listed₀ turns₀ out listed turns = length out ≡ length out₀
+Inv-loop line place s out₀ listed₀ turns₀ out listed turns = length out ≡ length out₀
 
 abbrev μ-loop : tie.MeasureT-loop
-μ-loop line ordinal base s out₀ listed₀ turns₀ out listed turns = turns
+μ-loop line place s out₀ listed₀ turns₀ out listed turns = turns
 
 loop-holds : tie.Need-loop-holds Inv-loop μ-loop
 loop-holds c = search needs
@@ -29,12 +29,6 @@ same-length c = search needs
 returns : tie.Need-returns Inv-loop μ-loop
 returns c = search needs
 
-same-length-2 : tie.Need-same-length-2 Inv-loop μ-loop
-same-length-2 c = search needs
-
-returns-2 : tie.Need-returns-2 Inv-loop μ-loop
-returns-2 c = search needs
-
 sub-turns : tie.Need-sub-turns Inv-loop μ-loop
 sub-turns c = search needs
 
@@ -43,6 +37,12 @@ loop-less c = search needs
 
 loop-again : tie.Need-loop-again Inv-loop μ-loop
 loop-again c = search needs
+
+same-length-2 : tie.Need-same-length-2 Inv-loop μ-loop
+same-length-2 c = search needs
+
+returns-2 : tie.Need-returns-2 Inv-loop μ-loop
+returns-2 c = search needs
 
 same-length-3 : tie.Need-same-length-3 Inv-loop μ-loop
 same-length-3 c = search needs
@@ -62,10 +62,10 @@ list-piece-spec =
     write-all-requires
     same-length
     returns
-    same-length-2
-    returns-2
     sub-turns
     loop-less
     loop-again
+    same-length-2
+    returns-2
     same-length-3
     returns-3)

@@ -1,5 +1,4 @@
 -- `put_answer` puts the parts of each of the two texts one behind the other. Assumes nothing.
-use mathlib.Core.Path.{ap}
 use native.Mathlib.Omega.{arith}
 use Rattle.captures.proofs.Puts.{then}
 use borrow.Author.Needs.{needs}

@@ -1,9 +1,8 @@
 -- `put_number` puts as many digits as the number has. Assumes nothing.
-use mathlib.Core.Path.{_≡_, sym, ap, _∙_}
+use mathlib.Core.Path.{_≡_, ap, _∙_}
 use mathlib.Core.Bool.{true}
 use Prim.Native.Nat.{ℕ, _+_, _-_}
 use native.Mathlib.Omega.{arith}
-use lib.ListN.{length}
 use denote.Ref.{now}
 use Rattle.laws.specs.Numerals.{numeral}
 use Rattle.captures.specs.Numbers.{digitCount, decimalText}

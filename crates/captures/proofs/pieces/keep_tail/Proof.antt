@@ -1,10 +1,10 @@
 -- `keep_tail` moves the bytes one by one: those moved stand in front, and those behind are as they were. Assumes nothing.
-use mathlib.Core.Path.{_≡_, refl, ap, _∙_}
+use mathlib.Core.Path.{_≡_, refl}
 use Prim.Native.Nat.{_≤_, _-_}
 use native.Mathlib.Omega.{arith}
 use borrow.Author.Needs.{needs}
 use lib.ListN.{length, length-set}
-use lib.Seq.{paste, paste-zero, length-paste}
+use lib.Seq.{paste, paste-zero}
 use denote.Ref.{now}
 use Rattle.captures.specs.Pieces.{tailOf}
 use Rattle.captures.proofs.Tails.{tail-within, moved, all-moved}

@@ -1,0 +1,54 @@
+-- A capture read in any pieces is listed as in one go (01 'Bench cases'). Assumes nothing.
+use mathlib.Core.Path.{_≡_, refl, sym, ap, _∙_}
+use mathlib.Core.List.{List, [], _∷_, _++_, append-nil, append-assoc}
+use Prim.Native.Nat.{ℕ, _+_, _≤_}
+use native.Mathlib.Omega.{arith}
+use lib.ListN.{length, drop, length-append, length-drop}
+use Rattle.captures.specs.Pieces.{spansOn, spansOf, wrapped, linesIn, linesOf, keptFrom}
+use Rattle.captures.proofs.Whole.{lastEnd, nextOrdinal, in-two}
+
+-- where the kept bytes of a piece begin
+abbrev pub keptOf : List ℕ → ℕ
+keptOf s = keptFrom (lastEnd 0 (spansOf s 0)) (length s)
+
+-- so at most 65 bytes are kept, whatever the input's length
+pub few-kept : (s : List ℕ) → length (drop (keptOf s) s) ≤ 65
+few-kept s = omega (arith, length-drop (keptOf s) s)
+
+-- the lines of pieces, each listed behind the bytes kept of what came before it
+unfoldable pub runOf : ℕ → ℕ → ℕ → List ℕ → List (List ℕ) → List ℕ
+runOf line ordinal base kept [] = []
+runOf line ordinal base kept (piece ∷ pieces) =
+    linesOf line ordinal base (kept ++ piece) 0
+    ++ runOf line (nextOrdinal ordinal (spansOf (kept ++ piece) 0)) (wrapped (base + keptOf (kept ++ piece))) (drop (keptOf (kept ++ piece)) (kept ++ piece)) pieces
+
+abbrev pub joined : List (List ℕ) → List ℕ
+joined [] = []
+joined (piece ∷ pieces) = piece ++ joined pieces
+
+-- nothing is behind what is the same without it
+nothing-behind : (xs ys : List ℕ) → xs ≡ xs ++ ys → ys ≡ []
+nothing-behind xs [] h = refl
+nothing-behind xs (y ∷ ys) h = let z : ⊥ = omega (arith, ap length h, length-append xs (y ∷ ys)) in absurd z
+
+module _ (line : ℕ) where
+  -- the bytes kept hold no telegram
+  kept-none : (ordinal base : ℕ) (s : List ℕ) → linesOf line (nextOrdinal ordinal (spansOf s 0)) (wrapped (base + keptOf s)) (drop (keptOf s) s) 0 ≡ []
+  kept-none ordinal base s =
+      nothing-behind (linesOf line ordinal base s 0) _
+      (rw (append-nil s, append-nil (drop (keptOf s) s)) at (in-two s [] line ordinal base 0 (omega arith)))
+
+  onwards : (pieces : List (List ℕ)) (ordinal base : ℕ) (kept : List ℕ) → linesOf line ordinal base kept 0 ≡ [] → runOf line ordinal base kept pieces ≡ linesOf line ordinal base (kept ++ joined pieces) 0
+  unfolding runOf
+  onwards [] ordinal base kept h = rw (append-nil kept) (sym h)
+  onwards (piece ∷ pieces) ordinal base kept h =
+      let s = kept ++ piece in
+      let later = onwards pieces (nextOrdinal ordinal (spansOf (kept ++ piece) 0)) (wrapped (base + keptOf (kept ++ piece))) (drop (keptOf (kept ++ piece)) (kept ++ piece)) (kept-none ordinal base (kept ++ piece)) in
+      ap (λ (t : List ℕ). linesOf line ordinal base (kept ++ piece) 0 ++ t) later
+      ∙ sym (in-two (kept ++ piece) (joined pieces) line ordinal base 0 (omega arith))
+      ∙ ap (λ (t : List ℕ). linesOf line ordinal base t 0) (append-assoc kept piece (joined pieces))
+
+  -- Whatever the pieces, their lines are those of the whole capture.
+  pub in-pieces : (pieces : List (List ℕ)) → runOf line 1 0 [] pieces ≡ linesOf line 1 0 (joined pieces) 0
+  unfolding linesOf linesIn spansOf spansOn
+  in-pieces pieces = onwards pieces 1 0 [] refl
