@@ -17,11 +17,11 @@ use Rattle.telegram.specs.Writing.{Write}
 use Rattle.cutting.specs.declared.search.Span.{Span}
 use Rattle.cutting.specs.declared.search.Span.the-variants.{Found, Nothing}
 use Rattle.cutting.specs.Search.{spanOf, partOf}
-use Rattle.captures.specs.declared.pieces.Step as step
 use Rattle.captures.specs.Numbers.{puts}
 use Rattle.captures.specs.Lines.{lineRoom, putting, linePut}
 use Rattle.captures.specs.Pieces.{spansOf, wrapped, lineAt, stepFor, stepAt, stepOf, stopped, listedIn}
 use Rattle.captures.proofs.Spans.{found-within, spans-step}
+use Rattle.captures.specs.declared.pieces.Step as step
 
 -- what putting a telegram's line does
 module _ (line ordinal base : ℕ) (s : List ℕ) (place : ℕ) (out : List ℕ) where

@@ -14,10 +14,10 @@ use Rattle.telegram.specs.Reading.{readingOf}
 use Rattle.cutting.specs.declared.search.Span.{Span}
 use Rattle.cutting.specs.declared.search.Span.the-variants.{Found, Nothing}
 use Rattle.cutting.specs.Search.{spanOf, partOf}
-use Rattle.captures.specs.declared.pieces.Step as step
 use Rattle.captures.specs.declared.pieces.Listed.{Listed}
 use Rattle.captures.specs.Numbers.{puts}
 use Rattle.captures.specs.Lines.{lineText, lineRoom, putting}
+use Rattle.captures.specs.declared.pieces.Step as step
 
 -- what a search finds, before what later searches find from its end on
 abbrev pub spanning : Span → (ℕ → List (ℕ × ℕ)) → List (ℕ × ℕ)

@@ -1,0 +1,4 @@
+pub mod Places
+pub mod Ranges
+pub mod Calls
+pub mod Rulings

@@ -1,0 +1,40 @@
+-- `desk::state::Desk::numbers_fit` meets its contract. Assumes nothing.
+use Rattle.desk.proofs.Ranges.{bad-line, bad-number, bad-count, numbers-by-key}
+use Rattle.laws.proofs.Truths.{not-true, not-false}
+use mathlib.Core.Path.{sym, _∙_}
+use borrow.Author.Needs.{needs}
+use Rattle.desk.proofs.state.Desk.numbers_fit.Statement.{statement}
+use Rattle.desk.proofs.state.Desk.numbers_fit.Tie as tie
+
+is-line-requires : tie.Need-is-line-requires
+is-line-requires c κs = search needs
+
+returns : tie.Need-returns
+returns c = bad-line (c .before .before .before .args .self) (sym (c .before .is-line .ensures) ∙ not-true _ (c .if1 .taken))
+
+in-range-requires : tie.Need-in-range-requires
+in-range-requires c κs = search needs
+
+returns-2 : tie.Need-returns-2
+returns-2 c = bad-number (c .before .before .before .before .before .args .self) (sym (c .before .in-range .ensures) ∙ not-true _ (c .if2 .taken))
+
+returns-3 : tie.Need-returns-3
+returns-3 c = bad-count (c .before .before .before .before .before .before .before .args .self) (c .if3 .taken)
+
+key-fits-requires : tie.Need-key-fits-requires
+key-fits-requires c κs = search needs
+
+returns-4 : tie.Need-returns-4
+returns-4 c = c .key-fits .ensures ∙ numbers-by-key (c .before .before .before .before .before .before .before .before .args .self) (sym (c .before .before .before .before .before .before .is-line .ensures) ∙ not-false _ (c .before .before .before .before .before .if1 .left)) (sym (c .before .before .before .before .in-range .ensures) ∙ not-false _ (c .before .before .before .if2 .left)) (c .before .if3 .left)
+
+pub numbers-fit-spec : {M : Type 1} → statement M
+numbers-fit-spec =
+    tie.close
+    (tie.spec
+    is-line-requires
+    returns
+    in-range-requires
+    returns-2
+    returns-3
+    key-fits-requires
+    returns-4)

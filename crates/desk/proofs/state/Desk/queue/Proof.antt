@@ -1,0 +1,40 @@
+-- `desk::state::Desk::queue` meets its contract. Assumes nothing.
+use Rattle.desk.proofs.Calls.{queue-refused, queue-full, queue-done}
+use Rattle.telegram.specs.Answers.{faultOf}
+use mathlib.Core.Path.{sym, ap, _∙_}
+use borrow.Author.Needs.{needs}
+use Rattle.desk.proofs.state.Desk.queue.Statement.{statement}
+use Rattle.desk.proofs.state.Desk.queue.Tie as tie
+
+record-check-requires : tie.Need-record-check-requires
+record-check-requires c κs = search needs
+
+enum-known-check : tie.Need-enum-known-check
+enum-known-check c = search needs
+
+returns : tie.Need-returns
+returns c = queue-refused (c .before .before .before .before .args .self) (c .before .before .before .before .args .rec) _ _ (sym (ap faultOf (c .before .check .given .1)) ∙ c .before .before .before .record-check .ensures)
+
+enum-told : tie.Need-enum-told
+enum-told c = search needs
+
+returns-2 : tie.Need-returns-2
+returns-2 c = queue-full (c .before .before .before .before .before .args .self) (c .before .before .before .before .before .args .rec) (sym (ap faultOf (c .before .before .enum-told .given .1)) ∙ c .before .before .before .before .record-check .ensures) (c .if1 .taken)
+
+with-queued-requires : tie.Need-with-queued-requires
+with-queued-requires c κs = search needs
+
+returns-3 : tie.Need-returns-3
+returns-3 c = queue-done (c .before .before .before .before .before .before .args .self) (c .before .before .before .before .before .before .args .rec) (sym (ap faultOf (c .before .before .before .enum-told .given .1)) ∙ c .before .before .before .before .before .record-check .ensures) (c .before .if1 .left) _ (c .with-queued .ensures)
+
+pub queue-spec : {M : Type 1} → statement M
+queue-spec =
+    tie.close
+    (tie.spec
+    record-check-requires
+    enum-known-check
+    returns
+    enum-told
+    returns-2
+    with-queued-requires
+    returns-3)

@@ -1,0 +1,44 @@
+-- `desk::state::Desk::record_check` meets its contract. Assumes nothing.
+use Rattle.desk.proofs.Calls.{record-state, record-type, record-values, record-good}
+use Rattle.laws.proofs.Truths.{not-true, not-false}
+use mathlib.Core.Path.{sym, _∙_}
+use borrow.Author.Needs.{needs}
+use Rattle.desk.proofs.state.Desk.record_check.Statement.{statement}
+use Rattle.desk.proofs.state.Desk.record_check.Tie as tie
+
+in-ranges-requires : tie.Need-in-ranges-requires
+in-ranges-requires c κs = search needs
+
+returns : tie.Need-returns
+returns c = record-state (c .before .before .args .self) (c .before .before .args .rec) (sym (c .before .in-ranges .ensures) ∙ not-true _ (c .if1 .taken))
+
+type-of-requires : tie.Need-type-of-requires
+type-of-requires c κs = search needs
+
+data-type-requires : tie.Need-data-type-requires
+data-type-requires c κs = search needs
+
+returns-2 : tie.Need-returns-2
+returns-2 c = record-type (c .before .before .before .before .before .args .self) (c .before .before .before .before .before .args .rec) (sym (c .before .before .before .before .in-ranges .ensures) ∙ not-false _ (c .before .before .before .if1 .left)) _ _ (c .before .before .type-of .ensures) (c .before .data-type .ensures) (c .if2 .taken)
+
+permits-record-requires : tie.Need-permits-record-requires
+permits-record-requires c κs = search needs
+
+returns-3 : tie.Need-returns-3
+returns-3 c = record-values (c .before .before .before .before .before .before .before .args .self) (c .before .before .before .before .before .before .before .args .rec) (sym (c .before .before .before .before .before .before .in-ranges .ensures) ∙ not-false _ (c .before .before .before .before .before .if1 .left)) _ _ (c .before .before .before .before .type-of .ensures) (c .before .before .before .data-type .ensures) (c .before .before .if2 .left) (sym (c .before .permits-record .ensures) ∙ not-true _ (c .if3 .taken))
+
+returns-4 : tie.Need-returns-4
+returns-4 c = record-good (c .before .before .before .before .before .before .before .args .self) (c .before .before .before .before .before .before .before .args .rec) (sym (c .before .before .before .before .before .before .in-ranges .ensures) ∙ not-false _ (c .before .before .before .before .before .if1 .left)) _ _ (c .before .before .before .before .type-of .ensures) (c .before .before .before .data-type .ensures) (c .before .before .if2 .left) (sym (c .before .permits-record .ensures) ∙ not-false _ (c .if3 .left))
+
+pub record-check-spec : {M : Type 1} → statement M
+record-check-spec =
+    tie.close
+    (tie.spec
+    in-ranges-requires
+    returns
+    type-of-requires
+    data-type-requires
+    returns-2
+    permits-record-requires
+    returns-3
+    returns-4)

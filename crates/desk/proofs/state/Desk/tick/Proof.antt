@@ -1,0 +1,40 @@
+-- `desk::state::Desk::tick` meets its contract. Assumes nothing.
+use Rattle.desk.proofs.Calls.{tick-refused, tick-lost, tick-done}
+use Rattle.laws.proofs.Truths.{not-true, not-false}
+use mathlib.Core.Path.{sym, _∙_}
+use borrow.Author.Needs.{needs}
+use Rattle.desk.proofs.state.Desk.tick.Statement.{statement}
+use Rattle.desk.proofs.state.Desk.tick.Tie as tie
+
+in-ranges-requires : tie.Need-in-ranges-requires
+in-ranges-requires c κs = search needs
+
+returns : tie.Need-returns
+returns c = tick-refused (c .before .before .args .self) (c .before .before .args .at) (sym (c .before .in-ranges .ensures) ∙ not-true _ (c .if1 .taken))
+
+loses-requires : tie.Need-loses-requires
+loses-requires c κs = search needs
+
+noted-requires : tie.Need-noted-requires
+noted-requires c κs = search needs
+
+returns-2 : tie.Need-returns-2
+returns-2 c = tick-lost (c .before .before .before .before .before .args .self) (c .before .before .before .before .before .args .at) (sym (c .before .before .before .before .in-ranges .ensures) ∙ not-false _ (c .before .before .before .if1 .left)) (sym (c .before .before .loses .ensures) ∙ c .before .if2 .taken) _ (c .noted .ensures)
+
+noted-requires-2 : tie.Need-noted-requires-2
+noted-requires-2 c κs = search needs
+
+returns-3 : tie.Need-returns-3
+returns-3 c = tick-done (c .before .before .before .before .before .args .self) (c .before .before .before .before .before .args .at) (sym (c .before .before .before .before .in-ranges .ensures) ∙ not-false _ (c .before .before .before .if1 .left)) (sym (c .before .before .loses .ensures) ∙ c .before .if2 .left) _ (c .noted2 .ensures)
+
+pub tick-spec : {M : Type 1} → statement M
+tick-spec =
+    tie.close
+    (tie.spec
+    in-ranges-requires
+    returns
+    loses-requires
+    noted-requires
+    returns-2
+    noted-requires-2
+    returns-3)

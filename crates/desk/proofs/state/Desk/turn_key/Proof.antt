@@ -1,0 +1,30 @@
+-- `desk::state::Desk::turn_key` meets its contract. Assumes nothing.
+use Rattle.desk.proofs.Calls.{key-refused, key-done}
+use Rattle.telegram.specs.Answers.{faultOf}
+use mathlib.Core.Path.{sym, ap, _∙_}
+use borrow.Author.Needs.{needs}
+use Rattle.desk.proofs.state.Desk.turn_key.Statement.{statement}
+use Rattle.desk.proofs.state.Desk.turn_key.Tie as tie
+
+key-check-requires : tie.Need-key-check-requires
+key-check-requires c κs = search needs
+
+enum-known-check : tie.Need-enum-known-check
+enum-known-check c = search needs
+
+returns : tie.Need-returns
+returns c = key-refused (c .before .before .before .before .args .self) (c .before .before .before .before .args .key) _ _ (sym (ap faultOf (c .before .check .given .1)) ∙ c .before .before .before .key-check .ensures)
+
+enum-told : tie.Need-enum-told
+enum-told c = search needs
+
+with-key-requires : tie.Need-with-key-requires
+with-key-requires c κs = search needs
+
+returns-2 : tie.Need-returns-2
+returns-2 c = key-done (c .before .before .before .before .args .self) (c .before .before .before .before .args .key) (sym (ap faultOf (c .before .enum-told .given .1)) ∙ c .before .before .before .key-check .ensures) _ (c .with-key .ensures)
+
+pub turn-key-spec : {M : Type 1} → statement M
+turn-key-spec =
+    tie.close
+    (tie.spec key-check-requires enum-known-check returns enum-told with-key-requires returns-2)

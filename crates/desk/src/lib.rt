@@ -1,0 +1,5 @@
+// The desk, the slave's end of a line (01 'Link rules', 'Desk'): a state by value, and what each call makes of it.
+pub mod answers;
+pub mod deciding;
+pub mod panel;
+pub mod state;

@@ -1,0 +1,214 @@
+// The desk's calls that hear nothing (01 'Link rules', 'Desk'): the clock's tick, and what the panel queues, sets and turns.
+ghost use mathlib.Core.Path.{_≡_};
+ghost use Prim.Native.Nat.{_<_};
+ghost use Rattle.telegram.specs.Answers.{faultOf};
+ghost use Rattle.desk.specs.Answers.{outcomeOf};
+ghost use Rattle.desk.specs.Panel.{losesLine, notedOf, withQueued, withRequested, withKey, recordFault, keyFault, tickOf, queueOf, setOf, keyOf};
+use crate::answers::Outcome;
+use crate::state::Desk;
+use crate::state::Slot;
+use crate::state::Step;
+use crate::state::Wanted;
+use forms::records::Record;
+use forms::records::type_of;
+use forms::refusals::Refusal;
+use forms::table::data_type;
+use link::clock::run_out;
+use telegram::answers::Check;
+use values::values::permits_record;
+
+// T1's limit, in milliseconds.
+const T1: u32 = 28_000;
+
+// Whether a byte is A, X or Y.
+fn is_key(key: u8) -> bool
+    ensures { λ r. ⌜ r ≡ Rattle.desk.specs.Panel.isKey key ⌝ }
+{
+    if key == b'A' {
+        return true;
+    }
+    if key == b'X' {
+        return true;
+    }
+    if key == b'Y' {
+        return true;
+    }
+    false
+}
+
+impl Desk {
+    // Whether the line is good and T1 has run out.
+    pub(crate) fn loses(self, at: u32) -> bool
+        ensures { λ r. ⌜ r ≡ losesLine self at ⌝ }
+    {
+        if self.good {
+            run_out(at, self.t1, T1)
+        } else {
+            false
+        }
+    }
+
+    // The state with the line noted lost, where it is.
+    pub(crate) fn noted(self, lost: bool) -> Desk
+        ensures { λ r. ⌜ r ≡ notedOf self lost ⌝ }
+    {
+        let mut d = self;
+        if lost {
+            d.good = false;
+        }
+        d
+    }
+
+    // The first rule: line good and T1 run out means line lost.
+    pub fn tick(self, at: u32) -> Step
+        ensures { λ r. ⌜ (r .desk, outcomeOf (r .answer)) ≡ tickOf self at ⌝ }
+    {
+        if !self.in_ranges() {
+            return Step {
+                desk: self,
+                answer: Outcome::Refused(Refusal::State),
+            };
+        }
+        if self.loses(at) {
+            return Step {
+                desk: self.noted(true),
+                answer: Outcome::Lost,
+            };
+        }
+        Step {
+            desk: self.noted(false),
+            answer: Outcome::Done,
+        }
+    }
+
+    // Checks 15, 12 and 13 on a record that the panel hands over.
+    fn record_check(self, rec: Record) -> Check
+        ensures { λ r. ⌜ faultOf r ≡ recordFault self rec ⌝ }
+    {
+        if !self.in_ranges() {
+            return Check::Fails(Refusal::State);
+        }
+        if type_of(rec) != data_type(self.line) {
+            return Check::Fails(Refusal::NotSent);
+        }
+        if !permits_record(self.line, rec) {
+            return Check::Fails(Refusal::Range);
+        }
+        Check::Good
+    }
+
+    // A record put behind those that are queued.
+    fn with_queued(self, rec: Record) -> Desk
+        requires { ⌜ self .queued < 8 ⌝ }
+        ensures { λ r. ⌜ r ≡ withQueued self rec ⌝ }
+    {
+        let n = self.queued;
+        let mut d = self;
+        d.queue[n] = Slot { rec };
+        d.queued = n + 1;
+        d
+    }
+
+    // Queueing a record: 15, 12, 13, then 17 where 8 are queued.
+    pub fn queue(self, rec: Record) -> Step
+        ensures { λ r. ⌜ (r .desk, outcomeOf (r .answer)) ≡ queueOf self rec ⌝ }
+    {
+        let check = self.record_check(rec);
+        if let Check::Fails(refusal) = check {
+            return Step {
+                desk: self,
+                answer: Outcome::Refused(refusal),
+            };
+        }
+        if 8 <= self.queued {
+            return Step {
+                desk: self,
+                answer: Outcome::Refused(Refusal::Full),
+            };
+        }
+        Step {
+            desk: self.with_queued(rec),
+            answer: Outcome::Done,
+        }
+    }
+
+    // The state with another record set for r.
+    fn with_requested(self, rec: Record) -> Desk
+        ensures { λ r. ⌜ r ≡ withRequested self rec ⌝ }
+    {
+        let last = self.last;
+        let stored = self.stored;
+        let queue = self.queue;
+        Desk {
+            line: self.line,
+            good: self.good,
+            last,
+            t1: self.t1,
+            kept: self.kept,
+            stored,
+            requested: Wanted::Is(rec),
+            queued: self.queued,
+            queue,
+            key: self.key,
+        }
+    }
+
+    // Setting a requested record: 15, 12, 13.
+    pub fn set(self, rec: Record) -> Step
+        ensures { λ r. ⌜ (r .desk, outcomeOf (r .answer)) ≡ setOf self rec ⌝ }
+    {
+        let check = self.record_check(rec);
+        if let Check::Fails(refusal) = check {
+            return Step {
+                desk: self,
+                answer: Outcome::Refused(refusal),
+            };
+        }
+        Step {
+            desk: self.with_requested(rec),
+            answer: Outcome::Done,
+        }
+    }
+
+    // Checks 15, 12 and 13 on a key position: 12 on lines 1 and 2 whatever the value.
+    fn key_check(self, key: u8) -> Check
+        ensures { λ r. ⌜ faultOf r ≡ keyFault self key ⌝ }
+    {
+        if !self.in_ranges() {
+            return Check::Fails(Refusal::State);
+        }
+        if self.line != 3 {
+            return Check::Fails(Refusal::NotSent);
+        }
+        if !is_key(key) {
+            return Check::Fails(Refusal::Range);
+        }
+        Check::Good
+    }
+
+    // The state with another key position.
+    fn with_key(self, key: u8) -> Desk
+        ensures { λ r. ⌜ r ≡ withKey self key ⌝ }
+    {
+        let mut d = self;
+        d.key = key;
+        d
+    }
+
+    // The panel's key position: A, X or Y on line 3.
+    pub fn turn_key(self, key: u8) -> Step
+        ensures { λ r. ⌜ (r .desk, outcomeOf (r .answer)) ≡ keyOf self key ⌝ }
+    {
+        let check = self.key_check(key);
+        if let Check::Fails(refusal) = check {
+            return Step {
+                desk: self,
+                answer: Outcome::Refused(refusal),
+            };
+        }
+        Step {
+            desk: self.with_key(key),
+            answer: Outcome::Done,
+        }
+    }
+}

@@ -1,0 +1,198 @@
+// The desk's state, its ranges and its start (01 'Link rules', 'Desk'; 'Numbered answers', 15).
+ghost use mathlib.Core.Path.{_≡_};
+ghost use Prim.Native.Nat.{_≤_};
+ghost use lib.ListN.{take};
+ghost use Rattle.laws.specs.Truth.{every};
+ghost use Rattle.desk.specs.Answers.{outcomeOf};
+ghost use Rattle.desk.specs.State.{mayReply, slotFits, keyFits, keptFits, wantedFits, numbersFit, recordsFit, inRanges, fresh, startOf};
+use crate::answers::Outcome;
+use forms::records::Record;
+use forms::records::type_of;
+use forms::refusals::Refusal;
+use forms::table::data_type;
+use forms::table::is_line;
+use link::counters::LastTaken;
+use values::values::permits_record;
+
+// A place of the queue.
+pub struct Slot {
+    pub rec: Record,
+}
+
+// The record set for r, where one is set.
+pub enum Wanted {
+    None,
+    Is(Record),
+}
+
+// Its line; whether the line is good; the last number taken; T1's start; the stored answer's length and bytes; the record set for r;
+// the queue's count and places, the oldest first; the key position.
+pub struct Desk {
+    pub line: u8,
+    pub good: bool,
+    pub last: LastTaken,
+    pub t1: u32,
+    pub kept: usize,
+    pub stored: [u8; 66],
+    pub requested: Wanted,
+    pub queued: usize,
+    pub queue: [Slot; 8],
+    pub key: u8,
+}
+
+// The state behind a call that hears nothing, beside its answer.
+pub struct Step {
+    pub desk: Desk,
+    pub answer: Outcome,
+}
+
+// Whether a record is of the slave's data type on a line, with permitted values.
+fn may_reply(line: u8, rec: Record) -> bool
+    ensures { λ r. ⌜ r ≡ mayReply line rec ⌝ }
+{
+    if type_of(rec) == data_type(line) {
+        permits_record(line, rec)
+    } else {
+        false
+    }
+}
+
+// Whether a key position is one of a line: A, X or Y on line 3, A on the others.
+fn key_fits(line: u8, key: u8) -> bool
+    ensures { λ r. ⌜ r ≡ keyFits line key ⌝ }
+{
+    if key == b'A' {
+        return true;
+    }
+    if line != 3 {
+        return false;
+    }
+    if key == b'X' {
+        return true;
+    }
+    key == b'Y'
+}
+
+// Whether a stored answer's length is one: 0 while the line is lost, or 10 to 66.
+fn kept_fits(good: bool, kept: usize) -> bool
+    ensures { λ r. ⌜ r ≡ keptFits good kept ⌝ }
+{
+    if kept == 0 {
+        return !good;
+    }
+    if kept < 10 {
+        return false;
+    }
+    kept < 67
+}
+
+// Whether a requested record may answer r on a line.
+fn wanted_fits(line: u8, wanted: Wanted) -> bool
+    ensures { λ r. ⌜ r ≡ wantedFits line wanted ⌝ }
+{
+    match wanted {
+        Wanted::None => true,
+        Wanted::Is(rec) => may_reply(line, rec),
+    }
+}
+
+// Whether each of the first n queued records may answer t on a line.
+fn queue_fits(line: u8, queue: [Slot; 8], n: usize) -> bool
+    requires { ⌜ n ≤ 8 ⌝ }
+    ensures { λ r. ⌜ r ≡ every (slotFits line) (take n queue) ⌝ }
+{
+    let mut i: usize = 0;
+    while i < n {
+        let slot = queue[i];
+        let rec = slot.rec;
+        if !may_reply(line, rec) {
+            return false;
+        }
+        i = i + 1;
+    }
+    true
+}
+
+impl Desk {
+    // Whether line, number, count and key are in their ranges.
+    fn numbers_fit(self) -> bool
+        ensures { λ r. ⌜ r ≡ numbersFit self ⌝ }
+    {
+        let last = self.last;
+        if !is_line(self.line) {
+            return false;
+        }
+        if !last.in_range() {
+            return false;
+        }
+        if 8 < self.queued {
+            return false;
+        }
+        key_fits(self.line, self.key)
+    }
+
+    // Whether the stored answer's length and the records are.
+    fn records_fit(self) -> bool
+        requires { ⌜ self .queued ≤ 8 ⌝ }
+        ensures { λ r. ⌜ r ≡ recordsFit self ⌝ }
+    {
+        let wanted = self.requested;
+        let queue = self.queue;
+        if !kept_fits(self.good, self.kept) {
+            return false;
+        }
+        if !wanted_fits(self.line, wanted) {
+            return false;
+        }
+        queue_fits(self.line, queue, self.queued)
+    }
+
+    // Whether the state is in its ranges; places past the count and stored bytes are not looked at.
+    pub(crate) fn in_ranges(self) -> bool
+        ensures { λ r. ⌜ r ≡ inRanges self ⌝ }
+    {
+        if self.numbers_fit() {
+            self.records_fit()
+        } else {
+            false
+        }
+    }
+
+    // The state at the start of a line: line lost, last number 0, no stored answer, T1's start at 0, an empty queue,
+    // no requested record and key position A.
+    fn fresh(line: u8) -> Desk
+        ensures { λ r. ⌜ r ≡ fresh line ⌝ }
+    {
+        Desk {
+            line,
+            good: false,
+            last: LastTaken(0),
+            t1: 0,
+            kept: 0,
+            stored: [0u8; 66],
+            requested: Wanted::None,
+            queued: 0,
+            queue: [Slot {
+                rec: Record::Approved(0),
+            }; 8],
+            key: b'A',
+        }
+    }
+
+    // A start on a line; refused 15, with a blank state of line 0, where there is no such line.
+    pub fn start(line: u8) -> Step
+        ensures { λ r. ⌜ (r .desk, outcomeOf (r .answer)) ≡ startOf line ⌝ }
+    {
+        if is_line(line) {
+            Step {
+                desk: Desk::fresh(line),
+                answer: Outcome::Done,
+            }
+        } else {
+            Step {
+                desk: Desk::fresh(0),
+                answer: Outcome::Refused(Refusal::State),
+            }
+        }
+    }
+}

@@ -1,0 +1,15 @@
+-- The numbers of telegrams (01 'Link rules'; 001 section 4.2). Assumes nothing.
+use Prim.Native.Nat.{ℕ}
+use mathlib.Core.Bool.{Bool, cond}
+use lib.Dec.{ltb, eqb}
+
+-- a number is 0 or 1
+abbrev pub inRange : ℕ → Bool
+inRange number = ltb number 2
+
+-- the number changes: 0 to 1, and 1 to 0
+abbrev pub changedOf : ℕ → ℕ
+changedOf number = cond (eqb number 0) 1 0
+
+abbrev pub sameNumber : ℕ → ℕ → Bool
+sameNumber a b = eqb a b

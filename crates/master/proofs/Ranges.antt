@@ -1,0 +1,139 @@
+-- The ranges of the master's state: the test of them, and what it says of a state that passes. Assumes nothing.
+use mathlib.Core.Path.{_≡_, refl, sym}
+use mathlib.Core.Bool.{Bool, true, false, cond}
+use Prim.Native.Nat.{ℕ, _≤_, _<_}
+use native.Mathlib.Omega.{arith}
+use lib.Dec.{ltb}
+use borrow.Author.Tests.{lt-ltb, le-ltb, eq-eqb, ne-eqb, ltb-true, ltb-false}
+use Rattle.laws.specs.Truth.{both, either}
+use Rattle.laws.proofs.Truths.{both-left, both-right, both-true}
+use Rattle.laws.proofs.Passes.{from-passes}
+use Rattle.laws.specs.Numerals.{numeralOn, leftOf}
+use Rattle.forms.specs.Forms.{isLine, byMaster, forms, onLine, lookIn, formOf, dataIn, dataType, slotsIn, countOf, slotsOf}
+use Rattle.forms.specs.Records.{typeOf}
+use Rattle.forms.specs.Characters.{inSet}
+use Rattle.forms.specs.declared.records.Record.{Record}
+use Rattle.values.specs.Packets.{packetOf, leadOf, isDecimal, permits}
+use Rattle.values.specs.Values.{permitsRecord, textOf, bodyOf, permittedFrom, permitted, permitsValue, permitsValues}
+use Rattle.telegram.specs.Answers.{good, fault}
+use Rattle.link.specs.Counters.{inRange}
+use Rattle.master.specs.declared.state.Master.{Master}
+use Rattle.master.specs.Answers.{refuses, nothing}
+use Rattle.master.specs.State.{isFree, sendable, inRanges, callFault, withLine, started, blank, startOf}
+use Rattle.master.specs.Rules.{pollOf}
+
+-- a fault is no pass
+pub no-pass : {A : Type 0} {k place : ℕ} → fault k place ≡ good → A
+no-pass h = let z : _≡_ {A = ℕ} 0 1 = cc in let y : ⊥ = omega arith in absurd y
+
+-- the test, in the order of its parts
+module _ (m : Master) where
+  pub no-line : isLine (m .line) ≡ false → false ≡ inRanges m
+  unfolding inRanges
+  no-line h = rw h
+
+  module _ (l : isLine (m .line) ≡ true) where
+    pub no-number : inRange (m .number .0) ≡ false → false ≡ inRanges m
+    unfolding inRanges
+    no-number h = rw (l, h)
+
+    module _ (n : inRange (m .number .0) ≡ true) where
+      pub while-free : m .count ≡ 0 → true ≡ inRanges m
+      unfolding inRanges
+      while-free h = rw (l, n, eq-eqb (m .count) 0 h)
+
+      pub too-many : ¬ (m .count ≡ 0) → 3 < m .count → false ≡ inRanges m
+      unfolding inRanges
+      too-many h k = let b : 4 ≤ m .count = omega arith in rw (l, n, ne-eqb (m .count) 0 h, le-ltb (m .count) 4 b)
+
+      pub while-busy : ¬ (m .count ≡ 0) → m .count ≤ 3 → sendable (m .line) (m .rec) ≡ inRanges m
+      unfolding inRanges
+      while-busy h k = let b : m .count < 4 = omega arith in rw (l, n, ne-eqb (m .count) 0 h, lt-ltb (m .count) 4 b)
+
+-- what a state in its ranges has
+module _ (m : Master) (h : inRanges m ≡ true) where
+  pub lined : isLine (m .line) ≡ true
+  unfolding inRanges
+  lined = both-left _ _ h
+
+  rest : both (inRange (m .number .0)) (either (isFree m) (both (ltb (m .count) 4) (sendable (m .line) (m .rec)))) ≡ true
+  unfolding inRanges
+  rest = both-right (isLine (m .line)) _ h
+
+  pub numbered : m .number .0 < 2
+  numbered = ltb-true (m .number .0) 2 (both-left _ _ rest)
+
+  busy : isFree m ≡ false → both (ltb (m .count) 4) (sendable (m .line) (m .rec)) ≡ true
+  busy b = rw b at (both-right (inRange (m .number .0)) _ rest)
+
+  pub counted : isFree m ≡ false → m .count < 4
+  counted b = ltb-true (m .count) 4 (both-left _ _ (busy b))
+
+  pub sends : isFree m ≡ false → sendable (m .line) (m .rec) ≡ true
+  sends b = both-right (ltb (m .count) 4) _ (busy b)
+
+-- whether the master may send a record
+module _ (line : ℕ) (rec : Record) (kind : ℕ) (e : kind ≡ typeOf rec) where
+  pub sends-type : byMaster line kind ≡ true → permitsRecord line rec ≡ sendable line rec
+  unfolding sendable
+  sends-type h = let k : byMaster line (typeOf rec) ≡ true = rw e at h in rw k
+
+  pub other-type : byMaster line kind ≡ false → false ≡ sendable line rec
+  unfolding sendable
+  other-type h = let k : byMaster line (typeOf rec) ≡ false = rw e at h in rw k
+
+-- a record that the master may send is permitted
+pub sendable-permits : (line : ℕ) (rec : Record) → sendable line rec ≡ true → permitsRecord line rec ≡ true
+unfolding sendable
+sendable-permits line rec h = both-right (byMaster line (typeOf rec)) (permitsRecord line rec) h
+
+pub sendable-both : (line : ℕ) (rec : Record) → byMaster line (typeOf rec) ≡ true → permitsRecord line rec ≡ true → sendable line rec ≡ true
+unfolding sendable
+sendable-both line rec h k = both-true (byMaster line (typeOf rec)) (permitsRecord line rec) h k
+
+-- the master may send the poll on each line
+pub poll-sendable : (line : ℕ) → isLine line ≡ true → sendable line (pollOf line) ≡ true
+poll-sendable line h =
+    from-passes (λ (l : ℕ). sendable l (pollOf l)) 1 3 line
+    (unfold sendable pollOf permitsRecord textOf bodyOf permittedFrom permitted permitsValue permitsValues forms onLine lookIn formOf dataIn dataType slotsIn countOf slotsOf packetOf leadOf isDecimal permits inSet numeralOn leftOf in refl) h
+
+-- noting the line changes no range
+pub line-noted : (m n : Master) (g : Bool) → n ≡ withLine m g → inRanges m ≡ true → inRanges n ≡ true
+unfolding inRanges
+line-noted m n g e h = rw e h
+
+pub line-noted-busy : (m n : Master) (g : Bool) → n ≡ withLine m g → isFree m ≡ false → isFree n ≡ false
+line-noted-busy m n g e h = rw e h
+
+-- 15, then 14
+module _ (m : Master) (room : ℕ) where
+  pub out-of-range : inRanges m ≡ false → fault 15 0 ≡ callFault m room
+  unfolding callFault
+  out-of-range h = rw h
+
+  pub no-room : inRanges m ≡ true → room < 66 → fault 14 0 ≡ callFault m room
+  unfolding callFault
+  no-room h k = rw (h, lt-ltb room 66 k)
+
+  pub passes : inRanges m ≡ true → 66 ≤ room → good ≡ callFault m room
+  unfolding callFault
+  passes h k = rw (h, le-ltb room 66 k)
+
+  pub passed : good ≡ callFault m room → (inRanges m ≡ true) × (66 ≤ room)
+  unfolding callFault
+  passed h = go (inRanges m) (ltb room 66) (ltb-false room 66) (sym h)
+    where
+      go : (r s : Bool) → (s ≡ false → 66 ≤ room) → cond r (cond s (fault 14 0) good) (fault 15 0) ≡ good → (r ≡ true) × (66 ≤ room)
+      go true false k e = (refl, k refl)
+      go true true k e = no-pass e
+      go false s k e = no-pass e
+
+-- the start, refused 15 where there is no such line
+module _ (line at : ℕ) where
+  pub start-refused : isLine line ≡ false → (blank, refuses 15 0) ≡ startOf line at
+  unfolding startOf
+  start-refused h = rw h
+
+  pub start-made : isLine line ≡ true → (started line at, nothing) ≡ startOf line at
+  unfolding startOf
+  start-made h = rw h

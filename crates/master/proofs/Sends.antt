@@ -1,0 +1,155 @@
+-- The answers of the master's offer and tick, one after the other. Assumes nothing.
+use mathlib.Core.Path.{_≡_, refl, sym, ap, _∙_}
+use mathlib.Core.Bool.{Bool, true, false, cond}
+use mathlib.Core.List.{List, _++_}
+use Prim.Native.Nat.{ℕ, _+_, _≤_, _<_}
+use native.Mathlib.Omega.{arith}
+use lib.ListN.{length, drop}
+use borrow.Author.Tests.{eq-eqb, ne-eqb}
+use Rattle.forms.specs.Forms.{byMaster}
+use Rattle.forms.specs.Refusals.{numberOf, placeOf}
+use Rattle.forms.specs.Records.{typeOf}
+use Rattle.forms.specs.declared.records.Record.{Record}
+use Rattle.forms.specs.declared.refusals.Refusal.{Refusal}
+use Rattle.values.specs.Values.{permitsRecord, lengthOf}
+use Rattle.telegram.specs.Answers.{good, fault, Outcome, wrote, refusesTo, outcomeOf}
+use Rattle.telegram.specs.Writing.{telegramOf, writingOf}
+use Rattle.telegram.specs.declared.answers.Writing.{Writing}
+use Rattle.telegram.specs.declared.answers.Writing.the-variants.{Written, Refused}
+use Rattle.trips.proofs.Trips.{output, length-bounds}
+use Rattle.link.specs.Clock.{runOut}
+use Rattle.master.specs.declared.state.Master.{Master}
+use Rattle.master.specs.declared.state.Step.{Step}
+use Rattle.master.specs.declared.answers.Sending.{Sending}
+use Rattle.master.specs.declared.answers.Sending.the-variants.{Offered, Again, Poll}
+use Rattle.master.specs.declared.answers.Cause.{Cause}
+use Rattle.master.specs.declared.answers.Cause.the-variants.{Silence}
+use Rattle.master.specs.Answers.{toldOf, nothing, sent, givenUp}
+use Rattle.master.specs.State.{isFree, callFault, afterSending, withLine, givenUpState}
+use Rattle.master.specs.Rules.{t0Limit, t2Limit, pollOf}
+use Rattle.master.specs.Sending.{Turn, putOf, sendingOf, failedOf, offerFault, offerOf, pollingOf, waitingOf, tickOf}
+use Rattle.master.proofs.Ranges.{no-pass}
+use Rattle.master.specs.declared.answers.Answer as a
+
+-- a step with the output behind it
+abbrev pub stepped : Step → List ℕ → Turn
+stepped s out = (s .master, (toldOf (s .answer), out))
+
+-- a refused call's step
+abbrev pub refusing : Master → Refusal → Step
+refusing m x = record { master = m; answer = a.the-variants.Refused x }
+
+-- a permitted record's telegram is written where there is room for any
+module _ (line : ℕ) (rec : Record) (number : ℕ) (out new : List ℕ) (p : permitsRecord line rec ≡ true) (n : number < 2) (r : 66 ≤ length out) where
+  written : writingOf line rec number out ≡ (wrote (lengthOf line rec), telegramOf line rec number ++ drop (lengthOf line rec) out)
+  written = output line rec number out p n (let b = length-bounds line rec p in omega arith)
+
+  module _ (w : Writing) (e : (outcomeOf w, new) ≡ writingOf line rec number out) where
+    outcome : outcomeOf w ≡ wrote (lengthOf line rec)
+    outcome = ap (λ (q : Outcome × List ℕ). q .0) (e ∙ written)
+
+    pub put-written : (bytes : ℕ) → w ≡ Written bytes → (bytes, new) ≡ putOf line rec number out
+    unfolding putOf
+    put-written bytes h =
+        let x : wrote bytes ≡ wrote (lengthOf line rec) = rw h at outcome in
+        let y : new ≡ telegramOf line rec number ++ drop (lengthOf line rec) out = ap (λ (q : Outcome × List ℕ). q .1) (e ∙ written) in
+        let z : bytes ≡ lengthOf line rec = cc in
+        rw (z, y)
+
+    pub never-refused : {A : Type 0} (x : Refusal) → w ≡ Refused x → A
+    never-refused x h =
+        let k : refusesTo (numberOf x) (placeOf x) ≡ wrote (lengthOf line rec) = rw h at outcome in
+        let z : _≡_ {A = ℕ} 0 1 = cc in
+        let y : ⊥ = omega arith in
+        absurd y
+
+pub sent-off : (sending : Sending) (m n : Master) (rec : Record) (count at bytes : ℕ) (out new : List ℕ) → n ≡ afterSending m rec count at → (bytes, new) ≡ putOf (m .line) rec (m .number .0) out
+    → (n, (sent sending count bytes, new)) ≡ sendingOf sending m rec count at out
+unfolding sendingOf
+sent-off sending m n rec count at bytes out new e f =
+    rw e (ap (λ (q : ℕ × List ℕ). (afterSending m rec count at, (sent sending count (q .0), q .1))) f)
+
+module _ (cause : Cause) (g : Bool) (m : Master) (at : ℕ) (out : List ℕ) where
+  pub gave-up : m .count ≡ 3 → (n : Master) → n ≡ givenUpState (withLine m g) → (n, (givenUp cause (m .count), out)) ≡ failedOf cause g m at out
+  unfolding failedOf
+  gave-up h n e = rw (e, eq-eqb (m .count) 3 h)
+
+  pub again : ¬ (m .count ≡ 3) → sendingOf Again m (m .rec) (m .count + 1) at out ≡ failedOf cause g m at out
+  unfolding failedOf
+  again h = rw (ne-eqb (m .count) 3 h)
+
+-- 16, then 12, then 13
+module _ (m : Master) (rec : Record) where
+  pub not-free : ¬ (m .count ≡ 0) → fault 16 0 ≡ offerFault m rec
+  unfolding offerFault
+  not-free h = rw (ne-eqb (m .count) 0 h)
+
+  module _ (f : m .count ≡ 0) (kind : ℕ) (e : kind ≡ typeOf rec) where
+    pub not-sent : byMaster (m .line) kind ≡ false → fault 12 0 ≡ offerFault m rec
+    unfolding offerFault
+    not-sent h = let k : byMaster (m .line) (typeOf rec) ≡ false = rw e at h in rw (eq-eqb (m .count) 0 f, k)
+
+    pub not-permitted : byMaster (m .line) kind ≡ true → permitsRecord (m .line) rec ≡ false → fault 13 0 ≡ offerFault m rec
+    unfolding offerFault
+    not-permitted h p = let k : byMaster (m .line) (typeOf rec) ≡ true = rw e at h in rw (eq-eqb (m .count) 0 f, k, p)
+
+    pub offered : byMaster (m .line) kind ≡ true → permitsRecord (m .line) rec ≡ true → good ≡ offerFault m rec
+    unfolding offerFault
+    offered h p = let k : byMaster (m .line) (typeOf rec) ≡ true = rw e at h in rw (eq-eqb (m .count) 0 f, k, p)
+
+  pub offer-passed : good ≡ offerFault m rec → (isFree m ≡ true) × ((byMaster (m .line) (typeOf rec) ≡ true) × (permitsRecord (m .line) rec ≡ true))
+  unfolding offerFault
+  offer-passed h = go (isFree m) (byMaster (m .line) (typeOf rec)) (permitsRecord (m .line) rec) (sym h)
+    where
+      go : (f b p : Bool) → cond f (cond b (cond p good (fault 13 0)) (fault 12 0)) (fault 16 0) ≡ good → (f ≡ true) × ((b ≡ true) × (p ≡ true))
+      go true true true e = (refl, (refl, refl))
+      go true true false e = no-pass e
+      go true false p e = no-pass e
+      go false b p e = no-pass e
+
+module _ (m : Master) (at : ℕ) (rec : Record) (out : List ℕ) where
+  pub offer-refused : (x : Refusal) → fault (numberOf x) (placeOf x) ≡ callFault m (length out) → (s : Step) → s ≡ refusing m x → stepped s out ≡ offerOf m at rec out
+  unfolding offerOf
+  offer-refused x h s e = rw (e, ← h)
+
+  module _ (g : good ≡ callFault m (length out)) where
+    pub offer-barred : (x : Refusal) → fault (numberOf x) (placeOf x) ≡ offerFault m rec → (s : Step) → s ≡ refusing m x → stepped s out ≡ offerOf m at rec out
+    unfolding offerOf
+    offer-barred x h s e = rw (e, ← g, ← h)
+
+    pub offer-sent : good ≡ offerFault m rec → sendingOf Offered m rec 1 at out ≡ offerOf m at rec out
+    unfolding offerOf
+    offer-sent h = rw (← g, ← h)
+
+module _ (m : Master) (at : ℕ) (out : List ℕ) where
+  -- the poll, and the wait for an answer
+  module _ (limit : ℕ) (e : limit ≡ t0Limit m) where
+    pub no-poll : runOut at (m .t0) limit ≡ false → (m, (nothing, out)) ≡ pollingOf m at out
+    unfolding pollingOf
+    no-poll h = rw (← e, h)
+
+    pub polled : runOut at (m .t0) limit ≡ true → (rec : Record) → rec ≡ pollOf (m .line) → sendingOf Poll m rec 1 at out ≡ pollingOf m at out
+    unfolding pollingOf
+    polled h rec q = rw (← e, h, q)
+
+  module _ (limit : ℕ) (e : limit ≡ t2Limit m) where
+    pub waits : runOut at (m .t2) limit ≡ false → (m, (nothing, out)) ≡ waitingOf m at out
+    unfolding waitingOf
+    waits h = rw (← e, h)
+
+    pub silent : runOut at (m .t2) limit ≡ true → failedOf Silence false m at out ≡ waitingOf m at out
+    unfolding waitingOf
+    silent h = rw (← e, h)
+
+  pub tick-refused : (x : Refusal) → fault (numberOf x) (placeOf x) ≡ callFault m (length out) → (s : Step) → s ≡ refusing m x → stepped s out ≡ tickOf m at out
+  unfolding tickOf
+  tick-refused x h s e = rw (e, ← h)
+
+  module _ (g : good ≡ callFault m (length out)) where
+    pub tick-free : m .count ≡ 0 → pollingOf m at out ≡ tickOf m at out
+    unfolding tickOf
+    tick-free h = rw (← g, eq-eqb (m .count) 0 h)
+
+    pub tick-busy : ¬ (m .count ≡ 0) → waitingOf m at out ≡ tickOf m at out
+    unfolding tickOf
+    tick-busy h = rw (← g, ne-eqb (m .count) 0 h)

@@ -1,0 +1,18 @@
+-- `master::state::Master::answered` frees the master with the changed number. Assumes nothing.
+use mathlib.Core.Path.{ap, _∙_}
+use Rattle.master.specs.State.{freed}
+use borrow.Author.Needs.{needs}
+use Rattle.master.proofs.state.Master.answered.Statement.{statement}
+use Rattle.master.proofs.state.Master.answered.Tie as tie
+
+changed-requires : tie.Need-changed-requires
+changed-requires c κs = search needs
+
+freed-requires : tie.Need-freed-requires
+freed-requires c κs = search needs
+
+returns : tie.Need-returns
+returns c = c .freed .ensures ∙ ap (freed (c .before .before .before .args .self)) (c .before .changed .ensures)
+
+pub answered-spec : {M : Type 1} → statement M
+answered-spec = tie.close (tie.spec changed-requires freed-requires returns)

@@ -1,0 +1,31 @@
+-- `master::state::Master::fail` sends again, or gives up at count 3. Assumes nothing.
+use mathlib.Core.Path.{_∙_}
+use denote.Ref.{now}
+use native.Mathlib.Omega.{arith}
+use Rattle.master.proofs.Ranges.{numbered, counted, sends, sendable-permits}
+use Rattle.master.proofs.Sends.{gave-up, again}
+use borrow.Author.Needs.{needs}
+use Rattle.master.proofs.state.Master.fail.Statement.{statement}
+use Rattle.master.proofs.state.Master.fail.Tie as tie
+
+given-up-requires : tie.Need-given-up-requires
+given-up-requires c κs = search needs
+
+returns : tie.Need-returns
+returns c = gave-up (c .before .before .before .args .cause) (c .before .before .before .args .good) (c .before .before .before .args .self) (c .before .before .before .args .at) (now (c .before .before .before .args .out)) (c .before .if1 .taken) (c .given-up .result) (c .given-up .ensures)
+
+add-send : tie.Need-add-send
+add-send c = omega (arith, counted (c .before .before .args .self) (c .before .before .pre .0) (c .before .before .pre .1 .0))
+
+send-requires : tie.Need-send-requires
+send-requires c κs = let m = c .before .before .before .args .self in (sendable-permits (m .line) (m .rec) (sends m (c .before .before .before .pre .0) (c .before .before .before .pre .1 .0)), (numbered m (c .before .before .before .pre .0), c .before .before .before .pre .1 .1))
+
+same-length : tie.Need-same-length
+same-length c = search needs
+
+returns-2 : tie.Need-returns-2
+returns-2 c = c .before .before .send .ensures ∙ again (c .before .before .before .before .before .before .args .cause) (c .before .before .before .before .before .before .args .good) (c .before .before .before .before .before .before .args .self) (c .before .before .before .before .before .before .args .at) (now (c .before .before .before .before .before .before .args .out)) (c .before .before .before .before .if1 .left)
+
+pub fail-spec : {M : Type 1} → statement M
+fail-spec =
+    tie.close (tie.spec given-up-requires returns add-send send-requires same-length returns-2)

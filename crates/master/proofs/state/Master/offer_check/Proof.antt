@@ -1,0 +1,40 @@
+-- `master::state::Master::offer_check` checks 16, 12 and 13 as its definition does. Assumes nothing.
+use mathlib.Core.Path.{sym, _∙_}
+use Rattle.laws.proofs.Truths.{not-true, not-false}
+use Rattle.master.proofs.Sends.{not-free, not-sent, not-permitted, offered}
+use borrow.Author.Needs.{needs}
+use Rattle.master.proofs.state.Master.offer_check.Statement.{statement}
+use Rattle.master.proofs.state.Master.offer_check.Tie as tie
+
+returns : tie.Need-returns
+returns c = not-free (c .before .before .args .self) (c .before .before .args .rec) (c .if1 .taken)
+
+type-of-requires : tie.Need-type-of-requires
+type-of-requires c κs = search needs
+
+by-master-requires : tie.Need-by-master-requires
+by-master-requires c κs = search needs
+
+returns-2 : tie.Need-returns-2
+returns-2 c = not-sent (c .before .before .before .before .before .args .self) (c .before .before .before .before .before .args .rec) (c .before .before .before .if1 .left) (c .before .before .type-of .result) (c .before .before .type-of .ensures) (sym (c .before .by-master .ensures) ∙ not-true _ (c .if2 .taken))
+
+permits-record-requires : tie.Need-permits-record-requires
+permits-record-requires c κs = search needs
+
+returns-3 : tie.Need-returns-3
+returns-3 c = not-permitted (c .before .before .before .before .before .before .before .args .self) (c .before .before .before .before .before .before .before .args .rec) (c .before .before .before .before .before .if1 .left) (c .before .before .before .before .type-of .result) (c .before .before .before .before .type-of .ensures) (sym (c .before .before .before .by-master .ensures) ∙ not-false _ (c .before .before .if2 .left)) (sym (c .before .permits-record .ensures) ∙ not-true _ (c .if3 .taken))
+
+returns-4 : tie.Need-returns-4
+returns-4 c = offered (c .before .before .before .before .before .before .before .args .self) (c .before .before .before .before .before .before .before .args .rec) (c .before .before .before .before .before .if1 .left) (c .before .before .before .before .type-of .result) (c .before .before .before .before .type-of .ensures) (sym (c .before .before .before .by-master .ensures) ∙ not-false _ (c .before .before .if2 .left)) (sym (c .before .permits-record .ensures) ∙ not-false _ (c .if3 .left))
+
+pub offer-check-spec : {M : Type 1} → statement M
+offer-check-spec =
+    tie.close
+    (tie.spec
+    returns
+    type-of-requires
+    by-master-requires
+    returns-2
+    permits-record-requires
+    returns-3
+    returns-4)

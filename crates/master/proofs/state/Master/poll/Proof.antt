@@ -1,0 +1,48 @@
+-- `master::state::Master::poll` sends the poll when T0 has run out. Assumes nothing.
+use mathlib.Core.Path.{_≡_, sym, ap, _∙_}
+use Rattle.laws.proofs.Truths.{not-true, not-false}
+use denote.Ref.{now}
+use Rattle.master.proofs.Ranges.{lined, numbered, poll-sendable, sendable-permits}
+use Rattle.master.specs.Rules.{pollOf}
+use Rattle.values.specs.Values.{permitsRecord}
+use mathlib.Core.Bool.{true}
+use Rattle.master.proofs.Sends.{no-poll, polled}
+use borrow.Author.Needs.{needs}
+use Rattle.master.proofs.state.Master.poll.Statement.{statement}
+use Rattle.master.proofs.state.Master.poll.Tie as tie
+
+t0-limit-requires : tie.Need-t0-limit-requires
+t0-limit-requires c κs = search needs
+
+run-out-requires : tie.Need-run-out-requires
+run-out-requires c κs = search needs
+
+returns : tie.Need-returns
+returns c = no-poll (c .before .before .before .before .args .self) (c .before .before .before .before .args .at) (now (c .before .before .before .before .args .out)) (c .before .before .t0-limit .result) (c .before .before .t0-limit .ensures) (sym (c .before .run-out .ensures) ∙ not-true _ (c .if1 .taken))
+
+poll-of-requires : tie.Need-poll-of-requires
+poll-of-requires c κs = search needs
+
+send-requires : tie.Need-send-requires
+send-requires c κs =
+    let m = c .before .before .before .before .before .before .args .self in
+    let p : permitsRecord (m .line) (pollOf (m .line)) ≡ true = sendable-permits (m .line) (pollOf (m .line)) (poll-sendable (m .line) (lined m (c .before .before .before .before .before .before .pre .0))) in
+    (ap (permitsRecord (m .line)) (c .before .poll-of .ensures) ∙ p, (numbered m (c .before .before .before .before .before .before .pre .0), c .before .before .before .before .before .before .pre .1))
+
+same-length : tie.Need-same-length
+same-length c = search needs
+
+returns-2 : tie.Need-returns-2
+returns-2 c = c .before .before .send .ensures ∙ polled (c .before .before .before .before .before .before .before .before .before .args .self) (c .before .before .before .before .before .before .before .before .before .args .at) (now (c .before .before .before .before .before .before .before .before .before .args .out)) (c .before .before .before .before .before .before .before .t0-limit .result) (c .before .before .before .before .before .before .before .t0-limit .ensures) (sym (c .before .before .before .before .before .before .run-out .ensures) ∙ not-false _ (c .before .before .before .before .before .if1 .left)) (c .before .before .before .before .poll-of .result) (c .before .before .before .before .poll-of .ensures)
+
+pub poll-spec : {M : Type 1} → statement M
+poll-spec =
+    tie.close
+    (tie.spec
+    t0-limit-requires
+    run-out-requires
+    returns
+    poll-of-requires
+    send-requires
+    same-length
+    returns-2)

@@ -1,0 +1,59 @@
+-- `master::state::Master::tick` checks 15 and 14, then polls or waits by the state it finds. Assumes nothing.
+use mathlib.Core.Path.{sym, ap, _∙_}
+use denote.Ref.{now}
+use Rattle.telegram.specs.Answers.{faultOf}
+use borrow.Author.Tests.{ne-eqb}
+use Rattle.master.proofs.Ranges.{passed}
+use Rattle.master.proofs.Sends.{tick-refused, tick-free, tick-busy}
+use borrow.Author.Needs.{needs}
+use Rattle.master.proofs.state.Master.tick.Statement.{statement}
+use Rattle.master.proofs.state.Master.tick.Tie as tie
+
+call-check-requires : tie.Need-call-check-requires
+call-check-requires c κs = search needs
+
+enum-known-check : tie.Need-enum-known-check
+enum-known-check c = search needs
+
+refused-requires : tie.Need-refused-requires
+refused-requires c κs = search needs
+
+returns : tie.Need-returns
+returns c = tick-refused (c .before .before .before .before .before .before .args .self) (c .before .before .before .before .before .before .args .at) (now (c .before .before .before .before .before .before .args .out)) _ (sym (ap faultOf (c .before .before .check .given .1)) ∙ c .before .before .before .before .call-check .ensures) (c .refused .result) (c .refused .ensures)
+
+enum-told : tie.Need-enum-told
+enum-told c = search needs
+
+poll-requires : tie.Need-poll-requires
+poll-requires c κs = passed (c .before .before .before .before .before .before .before .args .self) _ (sym (ap faultOf (c .before .before .before .enum-told .given .1)) ∙ c .before .before .before .before .before .call-check .ensures)
+
+same-length : tie.Need-same-length
+same-length c = search needs
+
+returns-2 : tie.Need-returns-2
+returns-2 c = c .before .before .poll .ensures ∙ tick-free (c .before .before .before .before .before .before .before .before .before .before .args .self) (c .before .before .before .before .before .before .before .before .before .before .args .at) (now (c .before .before .before .before .before .before .before .before .before .before .args .out)) (sym (ap faultOf (c .before .before .before .before .before .before .enum-told .given .1)) ∙ c .before .before .before .before .before .before .before .before .call-check .ensures) (c .before .before .before .before .if1 .taken)
+
+wait-requires : tie.Need-wait-requires
+wait-requires c κs = let g = passed (c .before .before .before .before .before .before .before .args .self) _ (sym (ap faultOf (c .before .before .before .enum-told .given .1)) ∙ c .before .before .before .before .before .call-check .ensures) in (g .0, (ne-eqb _ _ (c .before .if1 .left), g .1))
+
+same-length-2 : tie.Need-same-length-2
+same-length-2 c = search needs
+
+returns-3 : tie.Need-returns-3
+returns-3 c = c .before .before .wait .ensures ∙ tick-busy (c .before .before .before .before .before .before .before .before .before .before .args .self) (c .before .before .before .before .before .before .before .before .before .before .args .at) (now (c .before .before .before .before .before .before .before .before .before .before .args .out)) (sym (ap faultOf (c .before .before .before .before .before .before .enum-told .given .1)) ∙ c .before .before .before .before .before .before .before .before .call-check .ensures) (c .before .before .before .before .if1 .left)
+
+pub tick-spec : {M : Type 1} → statement M
+tick-spec =
+    tie.close
+    (tie.spec
+    call-check-requires
+    enum-known-check
+    refused-requires
+    returns
+    enum-told
+    poll-requires
+    same-length
+    returns-2
+    wait-requires
+    same-length-2
+    returns-3)

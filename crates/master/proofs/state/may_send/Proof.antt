@@ -1,0 +1,26 @@
+-- `master::state::may_send` meets its contract by a lemma for each branch. Assumes nothing.
+use mathlib.Core.Path.{sym, _∙_}
+use Rattle.master.proofs.Ranges.{sends-type, other-type}
+use borrow.Author.Needs.{needs}
+use Rattle.master.proofs.state.may_send.Statement.{statement}
+use Rattle.master.proofs.state.may_send.Tie as tie
+
+type-of-requires : tie.Need-type-of-requires
+type-of-requires c κs = search needs
+
+by-master-requires : tie.Need-by-master-requires
+by-master-requires c κs = search needs
+
+permits-record-requires : tie.Need-permits-record-requires
+permits-record-requires c κs = search needs
+
+returns : tie.Need-returns
+returns c = c .permits-record .ensures ∙ sends-type (c .before .before .before .before .args .line) (c .before .before .before .before .args .rec) (c .before .before .before .type-of .result) (c .before .before .before .type-of .ensures) (sym (c .before .before .by-master .ensures) ∙ c .before .if1 .taken)
+
+returns-2 : tie.Need-returns-2
+returns-2 c = other-type (c .before .before .before .args .line) (c .before .before .before .args .rec) (c .before .before .type-of .result) (c .before .before .type-of .ensures) (sym (c .before .by-master .ensures) ∙ c .if1 .left)
+
+pub may-send-spec : {M : Type 1} → statement M
+may-send-spec =
+    tie.close
+    (tie.spec type-of-requires by-master-requires permits-record-requires returns returns-2)

@@ -1,0 +1,5 @@
+pub mod Answers
+pub mod State
+pub mod Rules
+pub mod Sending
+pub mod Hearing
