@@ -10,8 +10,8 @@ use Rattle.forms.specs.declared.records.Record.{Record}
 use Rattle.values.specs.Values.{permitsRecord}
 use Rattle.telegram.specs.Answers.{good, fault}
 use Rattle.desk.specs.Answers.{done, lost, refuses}
-use Rattle.desk.specs.State.{inRanges}
-use Rattle.desk.specs.Panel.{losesLine, notedOf, withQueued, withRequested, withKey, recordFault, isKey, keyFault, tickOf, queueOf, setOf, keyOf}
+use Rattle.desk.specs.State.{isKey, inRanges}
+use Rattle.desk.specs.Panel.{losesLine, notedOf, withQueued, withRequested, withKey, recordFault, keyFault, tickOf, queueOf, setOf, keyOf}
 use Rattle.desk.specs.declared.state.Desk.{Desk}
 
 module _ (d : Desk) (at : ℕ) where

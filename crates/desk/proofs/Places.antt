@@ -2,13 +2,16 @@
 use mathlib.Core.Path.{_≡_, sym, ap, _∙_}
 use mathlib.Core.Bool.{Bool, true, false}
 use mathlib.Core.List.{List, [], _∷_}
-use Prim.Native.Nat.{ℕ, _+_, _≤_, _<_}
+use Prim.Native.Nat.{ℕ, _+_, _-_, _≤_, _<_}
 use native.Mathlib.Omega.{arith}
 use native.Mathlib.Numerals.{add-one}
 use lib.ListN.{length, getD, take, drop}
 use lib.Seq.{drop-cons, drop-length, getD-take, length-take-le}
 use Rattle.laws.specs.Truth.{every}
+use Rattle.desk.specs.Panel.{withQueue}
+use Rattle.desk.specs.Replies.{shifted, popped}
 use Rattle.desk.specs.declared.state.Slot.{Slot}
+use Rattle.desk.specs.declared.state.Desk.{Desk}
 
 -- the place behind those passed, in front of the rest
 next-place : (q : List Slot) (n i : ℕ) (d : Slot) → i < n → n ≤ length q → drop i (take n q) ≡ getD q i d ∷ drop (i + 1) (take n q)
@@ -28,3 +31,6 @@ no-place f q n i e k =
     let h : i ≡ length (take n q) = e ∙ sym (length-take-le n q k) in
     let l : drop i (take n q) ≡ [] = ap (λ (j : ℕ). drop j (take n q)) h ∙ drop-length (take n q) in
     rw l
+
+pub popped-by : (d : Desk) (q : List Slot) (n : ℕ) → q ≡ shifted (d .queue) → n ≡ d .queued - 1 → withQueue d q n ≡ popped d
+popped-by d q n e f = rw (e, f)

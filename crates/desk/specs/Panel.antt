@@ -4,8 +4,7 @@ use mathlib.Core.Bool.{Bool, false, cond}
 use mathlib.Core.List.{List}
 use lib.Dec.{ltb, eqb}
 use lib.ListN.{set}
-use Rattle.laws.specs.Truth.{both, oneOf}
-use Rattle.laws.specs.Text.{codes}
+use Rattle.laws.specs.Truth.{both}
 use Rattle.forms.specs.Forms.{dataType}
 use Rattle.forms.specs.Records.{typeOf}
 use Rattle.forms.specs.declared.records.Record.{Record}
@@ -13,7 +12,7 @@ use Rattle.values.specs.Values.{permitsRecord}
 use Rattle.link.specs.Clock.{runOut}
 use Rattle.telegram.specs.Answers.{Fault, good, fault}
 use Rattle.desk.specs.Answers.{Done, done, lost, refuses}
-use Rattle.desk.specs.State.{inRanges}
+use Rattle.desk.specs.State.{isKey, inRanges}
 use Rattle.desk.specs.declared.state.Slot.{Slot}
 use Rattle.desk.specs.declared.state.Wanted.the-variants.{Is}
 use Rattle.desk.specs.declared.state.Desk.{Desk}
@@ -76,10 +75,6 @@ queueOf d rec = faultless (recordFault d rec) d (cond (ltb (d .queued) 8) (withQ
 -- setting a requested record 12, 13; it replaces one that is set
 unfoldable pub setOf : Desk → Record → Desk × Done
 setOf d rec = faultless (recordFault d rec) d (withRequested d rec, done)
-
--- a key position is A, X or Y
-abbrev pub isKey : ℕ → Bool
-isKey key = oneOf (codes "AXY") key
 
 -- 15, then 12 on lines 1 and 2, then 13 for another position
 unfoldable pub keyFault : Desk → ℕ → Fault

@@ -83,3 +83,10 @@ ruledBy d byte (refuses number place) = badFrame d number place byte
 -- the rule for a frame, by its reading and its number byte
 unfoldable pub rulingIn : Desk → List ℕ → Ruling
 rulingIn d frame = ruledBy d (getD frame 4 0) (readingOf (d .line) frame)
+
+-- the number that a rule answers with, 0 where it carries none
+abbrev pub numberIn : Ruling → ℕ
+numberIn (quiet number place) = 0
+numberIn (wrongSum n) = n
+numberIn again = 0
+numberIn (handles n what) = n

@@ -4,7 +4,8 @@ use Prim.Native.Char.{code}
 use mathlib.Core.Bool.{Bool, true, false, cond, not}
 use lib.Dec.{leb, eqb}
 use lib.ListN.{take, replicate}
-use Rattle.laws.specs.Truth.{both, either, from, every}
+use Rattle.laws.specs.Truth.{both, from, oneOf, every}
+use Rattle.laws.specs.Text.{codes}
 use Rattle.forms.specs.Forms.{isLine, dataType}
 use Rattle.forms.specs.Records.{typeOf}
 use Rattle.forms.specs.declared.records.Record.{Record}
@@ -24,9 +25,13 @@ mayReply line rec = both (eqb (typeOf rec) (dataType line)) (permitsRecord line 
 abbrev pub slotFits : ℕ → Slot → Bool
 slotFits line slot = mayReply line (slot .rec)
 
--- key position A; on line 3 also X or Y
+-- a key position is A, X or Y
+abbrev pub isKey : ℕ → Bool
+isKey key = oneOf (codes "AXY") key
+
+-- on line 3 each of them, on the others A
 unfoldable pub keyFits : ℕ → ℕ → Bool
-keyFits line key = either (eqb key (code "A")) (both (eqb line 3) (either (eqb key (code "X")) (eqb key (code "Y"))))
+keyFits line key = cond (eqb line 3) (isKey key) (eqb key (code "A"))
 
 -- a stored answer has 10 to 66 bytes; there is none only while the line is lost
 unfoldable pub keptFits : Bool → ℕ → Bool

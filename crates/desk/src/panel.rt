@@ -9,6 +9,7 @@ use crate::state::Desk;
 use crate::state::Slot;
 use crate::state::Step;
 use crate::state::Wanted;
+use crate::state::is_key;
 use forms::records::Record;
 use forms::records::type_of;
 use forms::refusals::Refusal;
@@ -19,22 +20,6 @@ use values::values::permits_record;
 
 // T1's limit, in milliseconds.
 const T1: u32 = 28_000;
-
-// Whether a byte is A, X or Y.
-fn is_key(key: u8) -> bool
-    ensures { λ r. ⌜ r ≡ Rattle.desk.specs.Panel.isKey key ⌝ }
-{
-    if key == b'A' {
-        return true;
-    }
-    if key == b'X' {
-        return true;
-    }
-    if key == b'Y' {
-        return true;
-    }
-    false
-}
 
 impl Desk {
     // Whether the line is good and T1 has run out.

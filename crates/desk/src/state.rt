@@ -4,7 +4,7 @@ ghost use Prim.Native.Nat.{_≤_};
 ghost use lib.ListN.{take};
 ghost use Rattle.laws.specs.Truth.{every};
 ghost use Rattle.desk.specs.Answers.{outcomeOf};
-ghost use Rattle.desk.specs.State.{mayReply, slotFits, keyFits, keptFits, wantedFits, numbersFit, recordsFit, inRanges, fresh, startOf};
+ghost use Rattle.desk.specs.State.{mayReply, slotFits, isKey, keyFits, keptFits, wantedFits, numbersFit, recordsFit, inRanges, fresh, startOf};
 use crate::answers::Outcome;
 use forms::records::Record;
 use forms::records::type_of;
@@ -57,20 +57,27 @@ fn may_reply(line: u8, rec: Record) -> bool
     }
 }
 
-// Whether a key position is one of a line: A, X or Y on line 3, A on the others.
-fn key_fits(line: u8, key: u8) -> bool
-    ensures { λ r. ⌜ r ≡ keyFits line key ⌝ }
+// Whether a byte is A, X or Y.
+pub(crate) fn is_key(key: u8) -> bool
+    ensures { λ r. ⌜ r ≡ isKey key ⌝ }
 {
     if key == b'A' {
         return true;
     }
-    if line != 3 {
-        return false;
-    }
     if key == b'X' {
         return true;
     }
-    key == b'Y'
+    if key == b'Y' {
+        return true;
+    }
+    false
+}
+
+// Whether a key position is one of a line: A, X or Y on line 3, A on the others.
+fn key_fits(line: u8, key: u8) -> bool
+    ensures { λ r. ⌜ r ≡ keyFits line key ⌝ }
+{
+    if line == 3 { is_key(key) } else { key == b'A' }
 }
 
 // Whether a stored answer's length is one: 0 while the line is lost, or 10 to 66.

@@ -8,3 +8,4 @@ pub mod Counts
 pub mod Same
 pub mod Ended
 pub mod Timed
+pub mod Apart

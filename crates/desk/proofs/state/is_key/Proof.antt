@@ -1,7 +1,7 @@
--- `desk::panel::is_key` meets its contract. Assumes nothing.
+-- `desk::state::is_key` meets its contract. Assumes nothing.
 use Rattle.laws.proofs.Tests.{tests}
-use Rattle.desk.proofs.panel.is_key.Statement.{statement}
-use Rattle.desk.proofs.panel.is_key.Tie as tie
+use Rattle.desk.proofs.state.is_key.Statement.{statement}
+use Rattle.desk.proofs.state.is_key.Tie as tie
 
 returns : tie.Need-returns
 returns c = search tests

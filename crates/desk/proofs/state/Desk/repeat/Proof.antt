@@ -1,0 +1,44 @@
+-- `desk::state::Desk::repeat` meets its contract. Assumes nothing.
+use Rattle.desk.proofs.Ranges.{ranges-parts, kept-most}
+use Rattle.desk.proofs.Sendings.{repeat-sent}
+use Prim.Native.Nat.{_≤_}
+use lib.ListN.{length}
+use lib.Seq.{length-take-le}
+use denote.Ref.{now}
+use native.Mathlib.Omega.{arith}
+use mathlib.Core.Path.{_≡_, sym}
+use borrow.Author.Needs.{needs}
+use Rattle.desk.proofs.state.Desk.repeat.Statement.{statement}
+use Rattle.desk.proofs.state.Desk.repeat.Tie as tie
+
+array-share-prefix-stored : tie.Need-array-share-prefix-stored
+array-share-prefix-stored c = let a = c .before .before .args in
+    let h : length (a .self .stored) ≡ 66 = search needs in
+    let k : a .self .kept ≤ 66 = kept-most _ _ (ranges-parts (a .self) (c .before .before .pre .0) .stocked) in
+    omega arith
+
+slice-aggregate-copy : tie.Need-slice-aggregate-copy
+slice-aggregate-copy c = let a = c .before .before .before .args in
+    let h : length (a .self .stored) ≡ 66 = search needs in
+    let k : a .self .kept ≤ 66 = kept-most _ _ (ranges-parts (a .self) (c .before .before .before .pre .0) .stocked) in
+    sym (length-take-le _ _ (omega arith))
+
+copy-requires : tie.Need-copy-requires
+copy-requires c κs = let a = c .before .before .before .before .args in
+    let h : length (a .self .stored) ≡ 66 = search needs in
+    let k : a .self .kept ≤ 66 = kept-most _ _ (ranges-parts (a .self) (c .before .before .before .before .pre .0) .stocked) in
+    omega (arith, c .before .before .before .before .pre .1, length-take-le (a .self .kept) (a .self .stored) (omega arith))
+
+same-length : tie.Need-same-length
+same-length c = search needs
+
+returns : tie.Need-returns
+returns c = let a = c .before .before .before .before .before .before .before .args in
+    let h : length (a .self .stored) ≡ 66 = search needs in
+    let k : a .self .kept ≤ 66 = kept-most _ _ (ranges-parts (a .self) (c .before .before .before .before .before .before .before .pre .0) .stocked) in
+    repeat-sent (a .self) (now (a .out)) _ _ (omega arith) (c .before .before .copy .ensures .0) (c .before .before .copy .ensures .1)
+
+pub repeat-spec : {M : Type 1} → statement M
+repeat-spec =
+    tie.close
+    (tie.spec array-share-prefix-stored slice-aggregate-copy copy-requires same-length returns)
