@@ -112,7 +112,7 @@ pub fn members(class: u8) -> Option<&'static str> {
 }
 
 /// True where one of the patterns permits the value.
-fn permits(patterns: &str, value: &[u8]) -> bool {
+pub fn permits(patterns: &str, value: &[u8]) -> bool {
     let fits = |(class, byte): (u8, &u8)| match members(class) {
         Some(characters) => characters.as_bytes().contains(byte),
         None => class == *byte,

@@ -1,0 +1,193 @@
+//! The master's end of a line: document 01, 'Link rules', 'Master', and answers 12 to 16 of
+//! 'Numbered answers'.
+
+use crate::clock::run_out;
+use crate::desk::{Refusal, ROOM};
+use crate::reading::read;
+use crate::records::{by_master, data_type, Record};
+
+/// T0 and T2, in milliseconds.
+const T0: u32 = 20_000;
+const T2: u32 = 2_000;
+
+/// Why a hearing was ignored.
+#[derive(Debug, Clone, PartialEq, Eq)]
+pub enum Why {
+    Free,
+    RunOut,
+    Refused(u8, usize),
+    OtherNumber,
+}
+
+/// What a call did; the numbers are sending counts.
+#[derive(Debug, Clone, PartialEq, Eq)]
+pub enum Told {
+    Refused(Refusal),
+    Nothing,
+    Sent(u8),
+    Again(u8),
+    Polled(u8),
+    Answered(Record, u8),
+    OtherKind(Result<Record, (u8, usize)>, u8),
+    Silence(u8),
+    Rejected(u8),
+    Ignored(Why),
+}
+
+/// The master's state; a count of 0 is free.
+#[derive(Debug, Clone)]
+pub struct Master {
+    pub line: u8,
+    pub good: bool,
+    pub number: u8,
+    pub count: u8,
+    pub record: Record,
+    pub t0: u32,
+    pub t2: u32,
+}
+
+impl Master {
+    /// A start on a line; 15 and a blank state of line 0 where there is no such line.
+    pub fn start(line: u8, now: u32) -> (Master, Told) {
+        let known = matches!(line, 1..=3);
+        let (line, now, told) = if known {
+            (line, now, Told::Nothing)
+        } else {
+            (0, 0, Told::Refused(15))
+        };
+        let master = Master {
+            line,
+            good: known,
+            number: 0,
+            count: 0,
+            record: Record::with(b't', b't'),
+            t0: now,
+            t2: now,
+        };
+        (master, told)
+    }
+
+    /// 12 where the master does not send this type, then 13 for a value that is not permitted.
+    fn may_send(&self, record: &Record) -> Option<Refusal> {
+        if !by_master(self.line, record.type_byte) {
+            return Some(12);
+        }
+        record.telegram(self.line, 0).is_none().then_some(13)
+    }
+
+    /// 15 where the state is out of its ranges, then 14 where there is too little room.
+    fn refuses(&self, room: usize) -> Option<Refusal> {
+        let numbers = matches!(self.line, 1..=3) && self.number < 2 && self.count < 4;
+        if !numbers || (self.count != 0 && self.may_send(&self.record).is_some()) {
+            return Some(15);
+        }
+        (room < ROOM).then_some(14)
+    }
+
+    /// Every sending restarts T0 and T2.
+    fn send(&mut self, now: u32) -> Vec<u8> {
+        self.count += 1;
+        self.t0 = now;
+        self.t2 = now;
+        self.record
+            .telegram(self.line, self.number)
+            .unwrap_or_default()
+    }
+
+    /// Sent again, or given up at count 3.
+    fn failed(&mut self, now: u32, give_up: fn(u8) -> Told) -> (Told, Vec<u8>) {
+        if self.count < 3 {
+            let bytes = self.send(now);
+            return (Told::Again(self.count), bytes);
+        }
+        let told = give_up(self.count);
+        self.count = 0;
+        self.number = 0;
+        (told, Vec::new())
+    }
+
+    pub fn offer(&mut self, now: u32, room: usize, record: Record) -> (Told, Vec<u8>) {
+        let refused = |refusal| (Told::Refused(refusal), Vec::new());
+        if let Some(refusal) = self.refuses(room) {
+            return refused(refusal);
+        }
+        if self.count != 0 {
+            return refused(16);
+        }
+        if let Some(refusal) = self.may_send(&record) {
+            return refused(refusal);
+        }
+        self.record = record;
+        let bytes = self.send(now);
+        (Told::Sent(1), bytes)
+    }
+
+    pub fn tick(&mut self, now: u32, room: usize) -> (Told, Vec<u8>) {
+        if let Some(refusal) = self.refuses(room) {
+            return (Told::Refused(refusal), Vec::new());
+        }
+        if self.count != 0 {
+            if !run_out(now, self.t2, T2) {
+                return (Told::Nothing, Vec::new());
+            }
+            let step = self.failed(now, Told::Silence);
+            if matches!(step.0, Told::Silence(_)) {
+                self.good = false;
+            }
+            return step;
+        }
+        if !run_out(now, self.t0, T0) {
+            return (Told::Nothing, Vec::new());
+        }
+        self.record = match self.line {
+            1 => Record::with(b'r', b'B'),
+            _ => Record::with(b't', b't'),
+        };
+        let bytes = self.send(now);
+        (Told::Polled(1), bytes)
+    }
+
+    pub fn hear(&mut self, now: u32, room: usize, frame: &[u8]) -> (Told, Vec<u8>) {
+        let quiet = |told| (told, Vec::new());
+        if let Some(refusal) = self.refuses(room) {
+            return quiet(Told::Refused(refusal));
+        }
+        if self.count == 0 {
+            return quiet(Told::Ignored(Why::Free));
+        }
+        if run_out(now, self.t2, T2) {
+            return quiet(Told::Ignored(Why::RunOut));
+        }
+        let reading = read(self.line, frame);
+        if let Err((refusal @ 1..=7, place)) = reading {
+            return quiet(Told::Ignored(Why::Refused(refusal, place)));
+        }
+        if frame.get(4) != Some(&(b'0' + self.number)) {
+            return quiet(Told::Ignored(Why::OtherNumber));
+        }
+        self.good = true;
+        let heard = reading.map(|reading| Record::read(self.line, &reading));
+        if let Ok(record) = &heard {
+            if *record == Record::with(b'N', b'1') || *record == Record::with(b'N', b'2') {
+                return self.failed(now, Told::Rejected);
+            }
+        }
+        let count = self.count;
+        self.count = 0;
+        self.number = 1 - self.number;
+        quiet(match heard {
+            Ok(record) if self.permits(record.type_byte) => Told::Answered(record, count),
+            other => Told::OtherKind(other, count),
+        })
+    }
+
+    /// The types permitted as an answer to what was sent.
+    fn permits(&self, type_byte: u8) -> bool {
+        let data = data_type(self.line) == Some(type_byte);
+        match self.record.type_byte {
+            b'r' => data || type_byte == b'N',
+            b't' => data || b"AN".contains(&type_byte),
+            _ => b"AN".contains(&type_byte),
+        }
+    }
+}
