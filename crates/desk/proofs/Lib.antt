@@ -6,14 +6,3 @@ pub mod Answering
 pub mod Permitted
 pub mod Sendings
 pub mod Numbers
-pub mod Waiting
-pub mod Steps
-pub mod Kept
-pub mod Stored
-pub mod Repeats
-pub mod Faults
-pub mod Timed
-pub mod Polls
-pub mod Once
-pub mod Refused
-pub mod Apart

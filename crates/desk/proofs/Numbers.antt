@@ -33,17 +33,21 @@ behind k number place (Nowhere ∷ xs) ys h l = behind (k + 1) number place xs y
 behind k number place (At spot ∷ xs) ys h l = let e : k ≡ number = cc in absurd (omega arith)
 
 -- a refusal of a reading is its first fault, but for 15
-refusing : (t : Bool) (f : Fault) (rec : Record) (n number place : ℕ) → cond t (unless f (accepts rec n)) (refuses 15 0) ≡ refuses number place → number < 12 → f ≡ fault number place
+pub refusing : (t : Bool) (f : Fault) (rec : Record) (n number place : ℕ) → cond t (unless f (accepts rec n)) (refuses 15 0) ≡ refuses number place → number < 12 → f ≡ fault number place
 refusing true good rec n number place h l = clash (cc)
 refusing true (fault k q) rec n number place h l = cc
 refusing false f rec n number place h l = let e : 15 ≡ number = cc in absurd (omega arith)
 
--- a frame refused 8 to 11 is a good frame: its number byte is '0' or '1'
-pub good-number : (line : ℕ) (s : List ℕ) (number place : ℕ) → readingOf line s ≡ refuses number place → 8 ≤ number → number < 12 → isNumber (getD s 4 0) ≡ true
+-- a frame refused 8 to 11 is a good frame: checks 1 to 7 find no fault in it,
+pub good-checked : (line : ℕ) (s : List ℕ) (number place : ℕ) → readingOf line s ≡ refuses number place → 8 ≤ number → number < 12 → firstFault 1 (frameChecks s) ≡ good
 unfolding readingOf checks frameChecks
-good-number line s number place h l u =
+good-checked line s number place h l u =
     let f = refusing (isLine line) (firstFault 1 (checks line s)) (recordIn line s) (getD s 4 0 - code "0") number place h u in
-    faultless-framed s (good-faultless 1 (frameChecks s) (behind 1 number place (frameChecks s) (fieldChecks line s) f l)) .number
+    behind 1 number place (frameChecks s) (fieldChecks line s) f l
+
+-- and its number byte is '0' or '1'
+pub good-number : (line : ℕ) (s : List ℕ) (number place : ℕ) → readingOf line s ≡ refuses number place → 8 ≤ number → number < 12 → isNumber (getD s 4 0) ≡ true
+good-number line s number place h l u = faultless-framed s (good-faultless 1 (frameChecks s) (good-checked line s number place h l u)) .number
 
 small : (byte : ℕ) → isNumber byte ≡ true → byte - 48 < 2
 small byte h = ltb-true _ _ (oneOf-passes (λ (b : ℕ). ltb (b - 48) 2) (codes "01") byte refl h)

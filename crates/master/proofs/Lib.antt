@@ -2,10 +2,3 @@ pub mod Ranges
 pub mod Judged
 pub mod Sends
 pub mod Hears
-pub mod Calls
-pub mod Kept
-pub mod Counts
-pub mod Same
-pub mod Ended
-pub mod Timed
-pub mod Apart

@@ -1,0 +1,12 @@
+-- The desk under any calls (01 'Link rules', 'Desk'). Assumes nothing.
+pub mod Waiting
+pub mod Steps
+pub mod Kept
+pub mod Stored
+pub mod Repeats
+pub mod Faults
+pub mod Timed
+pub mod Polls
+pub mod Once
+pub mod Refused
+pub mod Apart

@@ -1,0 +1,177 @@
+-- Whatever calls are made, each record that was queued is given out once, in order, or still waits (01 'Link rules', 'Desk'). Assumes nothing.
+use mathlib.Core.Path.{_≡_, sym, ap, _∙_}
+use mathlib.Core.Bool.{Bool, true, false}
+use mathlib.Core.List.{List, [], _∷_, _++_, map, append-nil, append-assoc, map-append}
+use Prim.Native.Nat.{ℕ, _<_}
+use native.Mathlib.Omega.{arith}
+use lib.Dec.{eqb}
+use lib.ListN.{length, getD, take, drop}
+use lib.Seq.{take-append-seam}
+use borrow.Author.Tests.{eqb-true, eqb-false, ne-eqb}
+use Rattle.laws.proofs.Passes.{on-test}
+use Rattle.forms.specs.Forms.{isLine}
+use Rattle.forms.specs.declared.records.Record.{Record}
+use Rattle.values.specs.Values.{permitsRecord}
+use Rattle.telegram.specs.Answers as w
+use Rattle.telegram.specs.Reading.{readingOf}
+use Rattle.telegram.specs.Writing.{telegramOf}
+use Rattle.trips.proofs.Trips.{written-reads}
+use Rattle.desk.specs.Answers.{done, lost, refuses, Origin, requested, oldest, keyed, handed, contents, notMaster, nothingSet, turnsDown, silent, faulted, repeated, handled}
+use Rattle.desk.specs.State.{blank, startOf}
+use Rattle.desk.specs.Panel.{losesLine, notedOf, withQueued}
+use Rattle.desk.specs.Rules.{What, misread, strange, request, poll, other}
+use Rattle.desk.specs.Replies.{askedOf, polledOf, replyOf}
+use Rattle.desk.specs.Hearing.{Hearing, faultedOf, repeatedOf, handledOf}
+use Rattle.desk.specs.declared.state.Slot.{Slot}
+use Rattle.desk.specs.declared.state.Desk.{Desk}
+use Rattle.desk.specs.declared.state.Wanted.{Wanted}
+use Rattle.desk.specs.declared.state.Wanted.the-variants.{None, Is}
+use Rattle.desk.proofs.Permitted.{reply-permitted}
+use Rattle.conduct.proofs.Desk.Waiting.{waiting, filled-behind}
+use Rattle.conduct.proofs.Desk.Steps.{Call, ticks, queues, sets, turns, hears, Answered, did, heard, Turn, hearing, after, Does, does}
+use Rattle.conduct.proofs.Desk.Steps as s
+use Rattle.conduct.proofs.Desk.Kept.{Fine, fits, keeps, run, start-fine}
+use Rattle.conduct.proofs.Desk.Polls.{Answers, polled, takes-oldest, answers-key}
+
+-- the records that wait, the oldest first
+abbrev pub records : Desk → List Record
+records d = map (λ (s : Slot). s .rec) (waiting d)
+
+-- the record that a queueing brought, where it was done
+abbrev pub queuedIn : Call → Answered → List Record
+queuedIn (ticks at) answer = []
+queuedIn (queues rec) (did done) = rec ∷ []
+queuedIn (queues rec) (did lost) = []
+queuedIn (queues rec) (did (refuses k place)) = []
+queuedIn (queues rec) (heard told out) = []
+queuedIn (sets rec) answer = []
+queuedIn (turns key) answer = []
+queuedIn (hears at frame out) answer = []
+
+-- the record that bytes read as
+abbrev pub readIn : w.Answer → List Record
+readIn (w.accepts rec n) = rec ∷ []
+readIn (w.refuses k place) = []
+
+-- the record that an answer from the queue reads as on the line
+abbrev pub givenBy : ℕ → Origin → List ℕ → List Record
+givenBy line requested bytes = []
+givenBy line oldest bytes = readIn (readingOf line bytes)
+givenBy line (keyed key) bytes = []
+givenBy line (handed a rec) bytes = []
+givenBy line (contents a k place) bytes = []
+givenBy line (notMaster a) bytes = []
+givenBy line (nothingSet a) bytes = []
+
+abbrev pub givenIn : ℕ → Answered → List Record
+givenIn line (did x) = []
+givenIn line (heard (turnsDown k place) out) = []
+givenIn line (heard (silent noting k place) out) = []
+givenIn line (heard (faulted noting cause n) out) = []
+givenIn line (heard (repeated n) out) = []
+givenIn line (heard (handled noting origin n) out) = givenBy line origin (take n out)
+
+-- the records that calls queued, and those that they gave out from the queue, in order
+abbrev pub accepted : Desk → List Call → List Record
+accepted d [] = []
+accepted d (call ∷ calls) = queuedIn call (after d call .1) ++ accepted (after d call .0) calls
+
+abbrev pub given : Desk → List Call → List Record
+given d [] = []
+given d (call ∷ calls) = givenIn (d .line) (after d call .1) ++ given (after d call .0) calls
+
+-- what waits and what is queued is what is given and what waits then
+abbrev Balanced : Desk → Call → Turn → Type 0
+Balanced d call turn = records d ++ queuedIn call (turn .1) ≡ givenIn (d .line) (turn .1) ++ records (turn .0)
+
+module _ (d : Desk) (f : Fine d) where
+  none-refused : (call : Call) (k place : ℕ) → Balanced d call (d, did (refuses k place))
+  none-refused (ticks at) k place = append-nil (records d)
+  none-refused (queues rec) k place = append-nil (records d)
+  none-refused (sets rec) k place = append-nil (records d)
+  none-refused (turns key) k place = append-nil (records d)
+  none-refused (hears at frame out) k place = append-nil (records d)
+
+  noted-waits : (b : Bool) → records d ++ [] ≡ records (notedOf d b)
+  unfolding notedOf
+  noted-waits true = append-nil (records d)
+  noted-waits false = append-nil (records d)
+
+  one-queued : (rec : Record) → d .queued < 8 → Balanced d (queues rec) (withQueued d rec, did done)
+  one-queued rec q =
+      let e = filled-behind (d .queue) (d .queued) (record { rec = rec }) (omega (arith, f .holds)) in
+      sym (ap (map (λ (s : Slot). s .rec)) e ∙ map-append (λ (s : Slot). s .rec) (waiting d) (record { rec = rec } ∷ []))
+
+  -- an answer from the queue, by which the first that waits leaves
+  one-given : (at n : ℕ) (frame out : List ℕ) (b : Bool) (slot : Slot) (h : Hearing) → n < 2 → permitsRecord (d .line) (slot .rec) ≡ true
+      → waiting d ≡ slot ∷ waiting (h .0) → Answers (d .line) (slot .rec) n b oldest out h → Balanced d (hears at frame out) (hearing h)
+  one-given at n frame out b slot h l p e a =
+      let t = telegramOf (d .line) (slot .rec) n in
+      rw (e, a .0, a .1, take-append-seam t (drop (length t) out), written-reads (d .line) (slot .rec) n p l) (append-nil (slot .rec ∷ records (h .0)))
+
+  -- an answer with the key position, where none waits
+  none-given : (at n : ℕ) (frame out : List ℕ) (b : Bool) (rec : Record) (key : ℕ) (h : Hearing)
+      → waiting d ≡ [] → waiting (h .0) ≡ [] → Answers (d .line) rec n b (keyed key) out h → Balanced d (hears at frame out) (hearing h)
+  none-given at n frame out b rec key h e g a = rw (e, g, a .0)
+
+  oldest-permitted : ¬ (d .queued ≡ 0) → permitsRecord (d .line) (getD (d .queue) 0 blank .rec) ≡ true
+  unfolding polledOf
+  oldest-permitted q = rw (ne-eqb (d .queued) 0 q) at (reply-permitted d poll (f .holds) (fits d f))
+
+  module _ (b : Bool) (at n : ℕ) (l : n < 2) (frame out : List ℕ) where
+    asked-balanced : (w : Wanted) → Balanced d (hears at frame out) (hearing (handledOf (notedOf d b) b at n (askedOf (notedOf d b) w) out))
+    unfolding handledOf
+    asked-balanced None = noted-waits b
+    asked-balanced (Is rec) = noted-waits b
+
+    handled-balanced : (what : What) → Balanced d (hears at frame out) (hearing (handledOf (notedOf d b) b at n (replyOf (notedOf d b) what) out))
+    unfolding handledOf
+    handled-balanced (misread number place) = noted-waits b
+    handled-balanced strange = noted-waits b
+    handled-balanced request = asked-balanced (notedOf d b .requested)
+    handled-balanced poll =
+        on-test (eqb (d .queued) 0)
+        (λ e. let k = answers-key d f at n out b (eqb-true (d .queued) 0 e) in none-given at n frame out b _ _ (polled d f at n out b) (k .0) (k .1) (k .2))
+        (λ e.
+        let q = eqb-false (d .queued) 0 e in
+        let k = takes-oldest d f at n out b q in
+        one-given at n frame out b (getD (d .queue) 0 blank) (polled d f at n out b) l (oldest-permitted q) (k .0) (k .1))
+    handled-balanced (other rec) = noted-waits b
+
+  balanced : (call : Call) → Balanced d call (after d call)
+  unfolding faultedOf repeatedOf
+  balanced call = go call (after d call) (does d (f .ranged) call)
+    where
+      go : (call : Call) (turn : Turn) → Does d call turn → Balanced d call turn
+      go call turn (s.refused {k = k} {place = place} n) = none-refused call k place
+      go call turn s.noRoom = append-nil (records d)
+      go call turn (s.ticked {at}) = noted-waits (losesLine d at)
+      go call turn (s.queued {rec} m q) = one-queued rec q
+      go call turn (s.isSet m) = append-nil (records d)
+      go call turn (s.turned m) = append-nil (records d)
+      go call turn (s.unmoved {at}) = noted-waits (losesLine d at)
+      go call turn (s.faults {at} n) = noted-waits (losesLine d at)
+      go call turn (s.repeats {at}) = noted-waits (losesLine d at)
+      go call turn (s.handled {at} {frame} {out} n what l) = handled-balanced (losesLine d at) at n l frame out what
+
+-- What waits and what calls queue then is what they give out, and what waits behind them.
+pub each-once : (d : Desk) → Fine d → (calls : List Call) → records d ++ accepted d calls ≡ given d calls ++ records (run d calls)
+each-once d f [] = append-nil (records d)
+each-once d f (call ∷ calls) =
+    let e = after d call .0 in
+    let a = queuedIn call (after d call .1) in
+    let g = givenIn (d .line) (after d call .1) in
+    sym (append-assoc (records d) a (accepted e calls))
+    ∙ ap (λ (x : List Record). x ++ accepted e calls) (balanced d f call)
+    ∙ append-assoc g (records e) (accepted e calls)
+    ∙ ap (λ (x : List Record). g ++ x) (each-once e (keeps d f call .fine) calls)
+    ∙ sym (append-assoc g (given e calls) (records (run e calls)))
+
+start-empty : (line : ℕ) → isLine line ≡ true → records (startOf line .0) ≡ []
+unfolding startOf
+start-empty line h = rw h
+
+-- From the start, the records given out, then those that still wait, are the records queued, each once and in order.
+pub queued-once : (line : ℕ) → isLine line ≡ true → (calls : List Call) → given (startOf line .0) calls ++ records (run (startOf line .0) calls) ≡ accepted (startOf line .0) calls
+queued-once line h calls =
+    sym (each-once (startOf line .0) (start-fine line h) calls) ∙ ap (λ (x : List Record). x ++ accepted (startOf line .0) calls) (start-empty line h)

@@ -1,0 +1,166 @@
+-- From the start, under any calls, a stored answer is the telegram of a permitted record that the slave sends on the line, with the last number taken (01 'Link rules', 'Desk'). Assumes nothing.
+use mathlib.Core.Path.{_≡_, refl, ap, _∙_}
+use mathlib.Core.Bool.{Bool, true, false}
+use mathlib.Core.List.{List, [], _∷_, _++_}
+use Prim.Native.Nat.{ℕ, _≤_}
+use Prim.Native.Char.{code}
+use native.Mathlib.Omega.{arith}
+use lib.Dec.{eqb}
+use lib.ListN.{length, getD, take, drop, replicate}
+use lib.Seq.{take-append-seam}
+use borrow.Author.Tests.{eqb-true, eqb-false}
+use Rattle.laws.specs.Truth.{every}
+use Rattle.laws.proofs.Truths.{both-left, both-right}
+use Rattle.laws.proofs.Passes.{on-test, from-passes}
+use Rattle.forms.specs.Forms.{isLine, forms, onLine, lookIn, formOf, dataType, dataIn, bySlave}
+use Rattle.forms.specs.Records.{typeOf}
+use Rattle.forms.specs.declared.records.Record.{Record}
+use Rattle.values.specs.Values.{permitsRecord}
+use Rattle.telegram.specs.Writing.{telegramOf}
+use Rattle.trips.proofs.Trips.{telegram-length, length-bounds}
+use Rattle.desk.specs.Answers.{Told, Origin}
+use Rattle.desk.specs.Answers as h
+use Rattle.desk.specs.State.{blank, mayReply, slotFits, wantedFits, startOf}
+use Rattle.desk.specs.Panel.{losesLine, notedOf}
+use Rattle.desk.specs.Rules.{What, misread, strange, request, poll, other}
+use Rattle.desk.specs.Replies.{askedOf, polledOf, replyOf}
+use Rattle.desk.specs.Hearing.{sentOf, faultedOf, repeatedOf, handledOf, hearOf}
+use Rattle.desk.specs.declared.state.Desk.{Desk}
+use Rattle.desk.specs.declared.state.Wanted.{Wanted}
+use Rattle.desk.specs.declared.state.Wanted.the-variants.{None, Is}
+use Rattle.desk.proofs.Permitted.{reply-permitted}
+use Rattle.conduct.proofs.Desk.Waiting.{oldest-first}
+use Rattle.conduct.proofs.Desk.Steps.{never, Call, hears, heard, Turn, after, noted, Does, refused, noRoom, ticked, queued, isSet, turned, unmoved, faults, repeats, handled, does}
+use Rattle.conduct.proofs.Desk.Kept.{Fine, fits, noted-keeps, replied-keeps, keeps, run, runs-keep, start-fine, start-line}
+
+-- the bytes are the telegram of a record that the slave sends on the line, with permitted values, and this number; they are 10 to 66
+pub record Holding (line number kept : ℕ) (stored : List ℕ) : Type 0 where
+  pub rec : Record
+  pub ofSlave : bySlave line (typeOf rec) ≡ true
+  pub permitted : permitsRecord line rec ≡ true
+  pub bytes : take kept stored ≡ telegramOf line rec number
+  pub least : 10 ≤ kept
+  pub most : kept ≤ 66
+
+-- where the line has a stored answer, it is such with the last number taken
+abbrev pub Holds : Desk → Type 0
+Holds d = ¬ (d .kept ≡ 0) → Holding (d .line) (d .last .0) (d .kept) (d .stored)
+
+-- the slave sends A, N and its data type
+slave-sends : (line : ℕ) → isLine line ≡ true → every (bySlave line) (code "A" ∷ code "N" ∷ dataType line ∷ []) ≡ true
+unfolding forms onLine lookIn formOf dataType dataIn
+slave-sends line h = from-passes (λ (l : ℕ). every (bySlave l) (code "A" ∷ code "N" ∷ dataType l ∷ [])) 1 3 line refl h
+
+module _ (line : ℕ) (h : isLine line ≡ true) where
+  sends-a : bySlave line (code "A") ≡ true
+  sends-a = both-left (bySlave line (code "A")) _ (slave-sends line h)
+
+  sends-n : bySlave line (code "N") ≡ true
+  sends-n = both-left (bySlave line (code "N")) _ (both-right (bySlave line (code "A")) _ (slave-sends line h))
+
+  sends-data : (rec : Record) → mayReply line rec ≡ true → bySlave line (typeOf rec) ≡ true
+  unfolding mayReply
+  sends-data rec m =
+      let e = eqb-true (typeOf rec) (dataType line) (both-left (eqb (typeOf rec) (dataType line)) _ m) in
+      let x = both-right (bySlave line (code "N")) _ (both-right (bySlave line (code "A")) _ (slave-sends line h)) in
+      rw e (both-left (bySlave line (dataType line)) true x)
+
+-- each answer to a handled telegram is a record that the slave sends
+module _ (d : Desk) (f : Fine d) where
+  polled-sent : bySlave (d .line) (typeOf (polledOf d .1)) ≡ true
+  unfolding polledOf
+  polled-sent =
+      let p = fits d f in
+      on-test (eqb (d .queued) 0)
+      (λ e. rw e (sends-a (d .line) (p .lined)))
+      (λ e.
+      let o = oldest-first (d .queue) (d .queued) (f .holds) (omega (arith, eqb-false (d .queued) 0 e)) in
+      let w = rw o at (p .waiting) in
+      rw e (sends-data (d .line) (p .lined) (getD (d .queue) 0 blank .rec) (both-left (slotFits (d .line) (getD (d .queue) 0 blank)) _ w)))
+
+  pub reply-sent : (what : What) → bySlave (d .line) (typeOf (replyOf d what .1)) ≡ true
+  reply-sent (misread number place) = sends-n (d .line) (fits d f .lined)
+  reply-sent strange = sends-n (d .line) (fits d f .lined)
+  reply-sent request = asked (d .requested) (fits d f .wanted)
+    where
+      asked : (w : Wanted) → wantedFits (d .line) w ≡ true → bySlave (d .line) (typeOf (askedOf d w .1)) ≡ true
+      asked None h = sends-n (d .line) (fits d f .lined)
+      asked (Is rec) h = sends-data (d .line) (fits d f .lined) rec (unfold wantedFits in h)
+  reply-sent poll = polled-sent
+  reply-sent (other rec) = sends-a (d .line) (fits d f .lined)
+
+-- the first rule changes no stored answer
+noted-holds : (d : Desk) (b : Bool) → Holds d → Holds (notedOf d b)
+unfolding notedOf
+noted-holds d true k = k
+noted-holds d false k = k
+
+-- a stored telegram
+holding : (line : ℕ) (rec : Record) (number : ℕ) → bySlave line (typeOf rec) ≡ true → permitsRecord line rec ≡ true
+    → Holding line number (length (telegramOf line rec number)) (telegramOf line rec number ++ drop (length (telegramOf line rec number)) (replicate 66 0))
+holding line rec number s p =
+    let l = telegram-length line rec number p in
+    let b = length-bounds line rec p in
+    record { rec = rec; ofSlave = s; permitted = p; bytes = take-append-seam (telegramOf line rec number) _; least = omega arith; most = omega arith }
+
+handled-holds : (d : Desk) → Fine d → (b : Bool) (at number : ℕ) (what : What) (out : List ℕ) → Holds (handledOf (notedOf d b) b at number (replyOf (notedOf d b) what) out .0)
+unfolding handledOf
+handled-holds d f b at number what out k =
+    let e = notedOf d b in
+    let g = noted-keeps d f b .fine in
+    let p = reply-permitted e what (g .holds) (fits e g) in
+    rw (replied-keeps e g what .line) (holding (e .line) (replyOf e what .1) number (reply-sent e g what) p)
+
+-- each call keeps it
+holds-step : (d : Desk) → Fine d → Holds d → (call : Call) → Holds (after d call .0)
+unfolding faultedOf repeatedOf
+holds-step d f k call = go call (after d call) (does d (f .ranged) call)
+  where
+    go : (call : Call) (turn : Turn) → Does d call turn → Holds (turn .0)
+    go call turn (refused n) = k
+    go call turn noRoom = k
+    go call turn (ticked {at}) = noted-holds d (losesLine d at) k
+    go call turn (queued m q) = k
+    go call turn (isSet m) = k
+    go call turn (turned m) = k
+    go call turn (unmoved {at}) = noted-holds d (losesLine d at) k
+    go call turn (faults {at} n) = noted-holds d (losesLine d at) k
+    go call turn (repeats {at}) = noted-holds d (losesLine d at) k
+    go call turn (handled {at} {out = out} n what b) = handled-holds d f (losesLine d at) at n what out
+
+holds-run : (d : Desk) → Fine d → Holds d → (calls : List Call) → Holds (run d calls)
+holds-run d f k [] = k
+holds-run d f k (call ∷ calls) = holds-run (after d call .0) (keeps d f call .fine) (holds-step d f k call) calls
+
+start-none : (line : ℕ) → startOf line .0 .kept ≡ 0
+unfolding startOf
+start-none line = on-test (isLine line) (λ e. rw e) (λ e. rw e)
+
+-- Whatever calls are made from the start, a stored answer is the telegram of a permitted record of the slave on this line with the last number taken, of 10 to 66 bytes.
+pub stored-telegram : (line : ℕ) → isLine line ≡ true → (calls : List Call) (d : Desk) → d ≡ run (startOf line .0) calls → ¬ (d .kept ≡ 0) → Holding line (d .last .0) (d .kept) (d .stored)
+stored-telegram line h calls d e n =
+    let l : d .line ≡ line = ap (λ (x : Desk). x .line) e ∙ runs-keep (startOf line .0) (start-fine line h) calls .line ∙ start-line line h in
+    let k : Holds d = rw e (holds-run (startOf line .0) (start-fine line h) (λ q. absurd (q (start-none line))) calls) in
+    rw l at (k n)
+
+-- The answer to a handled telegram is stored as it was sent.
+pub stored-as-sent : (d : Desk) → Fine d → (at : ℕ) (frame out : List ℕ) (noting : Bool) (origin : Origin) (n : ℕ) → hearOf d at frame out .1 ≡ h.handled noting origin n
+    → (hearOf d at frame out .0 .kept ≡ n) × (take n (hearOf d at frame out .0 .stored) ≡ take n (hearOf d at frame out .2))
+unfolding faultedOf repeatedOf handledOf sentOf
+stored-as-sent d f at frame out noting origin n e = go (hears at frame out) (after d (hears at frame out)) (hearOf d at frame out .2) (does d (f .ranged) (hears at frame out)) (ap (λ (t : Told). heard t (hearOf d at frame out .2)) e)
+  where
+    go : (call : Call) (turn : Turn) (new : List ℕ) → Does d call turn → turn .1 ≡ heard (h.handled noting origin n) new → (turn .0 .kept ≡ n) × (take n (turn .0 .stored) ≡ take n new)
+    go call turn new (refused x) q = never (cc)
+    go call turn new noRoom q = never (cc)
+    go call turn new ticked q = never (cc)
+    go call turn new (queued m l) q = never (cc)
+    go call turn new (isSet m) q = never (cc)
+    go call turn new (turned m) q = never (cc)
+    go call turn new unmoved q = never (cc)
+    go call turn new (faults k) q = never (cc)
+    go call turn new repeats q = never (cc)
+    go call turn new (handled {at} {out = old} k what b) q =
+        let t = telegramOf (noted d at .line) (replyOf (noted d at) what .1) k in
+        let a : length t ≡ n = cc in
+        let c : t ++ drop (length t) old ≡ new = cc in
+        (a, rw (← c, ← a, take-append-seam t (drop (length t) (replicate 66 0)), take-append-seam t (drop (length t) old)))

@@ -1,0 +1,54 @@
+-- The paper's numbers and values tell the master's answers apart (01 'What the promises say'). Assumes nothing.
+use mathlib.Core.Path.{_≡_, refl, sym, ap, _∙_}
+use Rattle.telegram.specs.Answers.{Answer, accepts, answerOf}
+use Rattle.telegram.specs.Answers as t
+use Rattle.telegram.specs.declared.answers.Reading as g
+use Rattle.papers.specs.Answers.{refusalOf, refusal-back}
+use Rattle.master.specs.Answers.{Why, free, runOut, refused, otherNumber, whyOf, Told, refuses, nothing, sent, answered, otherKind, givenUp, ignored, toldOf}
+use Rattle.master.specs.declared.answers.Reason as r
+use Rattle.master.specs.declared.answers.Answer as a
+
+-- the answer of what is told: of a reading
+abbrev readingBack : Answer → g.Reading
+readingBack (accepts rec number) = g.the-variants.Accepted rec number
+readingBack (t.refuses number place) = g.the-variants.Refused (refusalOf number place)
+
+reading-back : (x : g.Reading) → readingBack (answerOf x) ≡ x
+reading-back (g.the-variants.Accepted rec number) = refl
+reading-back (g.the-variants.Refused x) = ap g.the-variants.Refused (refusal-back x)
+
+-- of a hearing that is ignored
+abbrev reasonBack : Why → r.Reason
+reasonBack free = r.the-variants.Free
+reasonBack runOut = r.the-variants.RunOut
+reasonBack (refused number place) = r.the-variants.Refused (refusalOf number place)
+reasonBack otherNumber = r.the-variants.OtherNumber
+
+reason-back : (x : r.Reason) → reasonBack (whyOf x) ≡ x
+reason-back r.the-variants.Free = refl
+reason-back r.the-variants.RunOut = refl
+reason-back (r.the-variants.Refused x) = ap r.the-variants.Refused (refusal-back x)
+reason-back r.the-variants.OtherNumber = refl
+
+-- of a call
+abbrev answerBack : Told → a.Answer
+answerBack (refuses number place) = a.the-variants.Refused (refusalOf number place)
+answerBack nothing = a.the-variants.Nothing
+answerBack (sent sending count bytes) = a.the-variants.Sent sending count bytes
+answerBack (answered rec count) = a.the-variants.Answered rec count
+answerBack (otherKind reading count) = a.the-variants.OtherKind (readingBack reading) count
+answerBack (givenUp cause count) = a.the-variants.GivenUp cause count
+answerBack (ignored why) = a.the-variants.Ignored (reasonBack why)
+
+answer-back : (x : a.Answer) → answerBack (toldOf x) ≡ x
+answer-back (a.the-variants.Refused x) = ap a.the-variants.Refused (refusal-back x)
+answer-back a.the-variants.Nothing = refl
+answer-back (a.the-variants.Sent sending count bytes) = refl
+answer-back (a.the-variants.Answered rec count) = refl
+answer-back (a.the-variants.OtherKind reading count) = rw (reading-back reading)
+answer-back (a.the-variants.GivenUp cause count) = refl
+answer-back (a.the-variants.Ignored why) = rw (reason-back why)
+
+-- so a promise through these definitions allows one answer only
+pub one-answer : (x y : a.Answer) → toldOf x ≡ toldOf y → x ≡ y
+one-answer x y e = sym (answer-back x) ∙ ap answerBack e ∙ answer-back y

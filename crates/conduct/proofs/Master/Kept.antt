@@ -1,0 +1,95 @@
+-- From the start, under any calls in any order with any inputs, the master's state is in its ranges (01 'Numbered answers', 15). Assumes nothing.
+use mathlib.Core.Path.{_≡_, refl}
+use mathlib.Core.Bool.{Bool, true, false, cond}
+use mathlib.Core.List.{List, [], _∷_}
+use Prim.Native.Nat.{ℕ, _<_}
+use native.Mathlib.Omega.{arith}
+use lib.Dec.{eqb}
+use borrow.Author.Tests.{lt-ltb}
+use Rattle.laws.specs.Truth.{either}
+use Rattle.forms.specs.Forms.{isLine}
+use Rattle.link.specs.Counters.{changedOf}
+use Rattle.master.specs.declared.state.Master.{Master}
+use Rattle.master.specs.Answers.{Told, refuses}
+use Rattle.master.specs.State.{isFree, sendable, inRanges, started}
+use Rattle.master.specs.Sending.{Turn, sendingOf}
+use Rattle.master.proofs.Ranges.{lined, numbered, counted, sends}
+use Rattle.conduct.proofs.Master.Calls.{Call, after, Quiet, refused, idle, unheard, Ends, permitted, strange, Does, stays, begins, repeats, ends, givesUp, does}
+
+-- a state behind calls, one after the other
+abbrev pub run : Master → List Call → Master
+run m [] = m
+run m (call ∷ calls) = run (after m call .0) calls
+
+-- the start is in range
+pub start-ranged : (line at : ℕ) → isLine line ≡ true → inRanges (started line at) ≡ true
+unfolding inRanges
+start-ranged line at h = rw h
+
+-- free on a line with a number in range
+free-ranged : (m : Master) → isLine (m .line) ≡ true → m .number .0 < 2 → m .count ≡ 0 → inRanges m ≡ true
+unfolding inRanges
+free-ranged m l n f = rw (l, lt-ltb (m .number .0) 2 n, f)
+
+-- not free, with a record that the master may send
+busy-ranged : (m : Master) → isLine (m .line) ≡ true → m .number .0 < 2 → m .count < 4 → sendable (m .line) (m .rec) ≡ true → inRanges m ≡ true
+unfolding inRanges
+busy-ranged m l n c s = rw (l, lt-ltb (m .number .0) 2 n, lt-ltb (m .count) 4 c, s) (either-true (isFree m))
+  where
+    either-true : (b : Bool) → either b true ≡ true
+    either-true true = refl
+    either-true false = refl
+
+-- a changed number is 0 or 1
+changed-small : (n : ℕ) → changedOf n < 2
+changed-small n = go (eqb n 0)
+  where
+    go : (b : Bool) → cond b 1 0 < 2
+    go true = omega arith
+    go false = omega arith
+
+-- each call keeps the ranges
+pub keeps : (m : Master) → inRanges m ≡ true → (call : Call) → inRanges (after m call .0) ≡ true
+unfolding sendingOf
+keeps m h call = go (after m call) (does m h call)
+  where
+    go : (turn : Turn) → Does m call turn → inRanges (turn .0) ≡ true
+    go turn (stays told q) = h
+    go turn (begins sending rec at f free s r) = busy-ranged (turn .0) (lined m h) (numbered m h) (omega arith) s
+    go turn (repeats g at f n r) =
+        busy-ranged (turn .0) (lined m h) (numbered m h) (omega (arith, counted m h f)) (sends m h f)
+    go turn (ends told e f b) = free-ranged (turn .0) (lined m h) (changed-small (m .number .0)) refl
+    go turn (givesUp cause f c) = free-ranged (turn .0) (lined m h) (omega arith) refl
+
+-- under any calls the state is in its ranges
+pub stays-ranged : (m : Master) → inRanges m ≡ true → (calls : List Call) → inRanges (run m calls) ≡ true
+stays-ranged m h [] = h
+stays-ranged m h (call ∷ calls) = stays-ranged (after m call .0) (keeps m h call) calls
+
+-- in its ranges a state is not refused 15
+pub not-15 : (m : Master) → inRanges m ≡ true → (call : Call) (place : ℕ) → ¬ (after m call .1 .0 ≡ refuses 15 place)
+unfolding sendingOf
+not-15 m h call place e = go (after m call) (does m h call) e
+  where
+    quiet : (told : Told) → Quiet told → ¬ (told ≡ refuses 15 place)
+    quiet told (refused {k} n) q = let x : k ≡ 15 = cc in n x
+    quiet told idle q = let z : _≡_ {A = ℕ} 0 1 = cc in omega arith
+    quiet told unheard q = let z : _≡_ {A = ℕ} 0 1 = cc in omega arith
+
+    over : (count : ℕ) (told : Told) → Ends count told → ¬ (told ≡ refuses 15 place)
+    over count told permitted q = let z : _≡_ {A = ℕ} 0 1 = cc in omega arith
+    over count told strange q = let z : _≡_ {A = ℕ} 0 1 = cc in omega arith
+
+    go : (turn : Turn) → Does m call turn → ¬ (turn .1 .0 ≡ refuses 15 place)
+    go turn (stays told n) q = quiet told n q
+    go turn (begins sending rec at f free s r) q = let z : _≡_ {A = ℕ} 0 1 = cc in omega arith
+    go turn (repeats g at f n r) q = let z : _≡_ {A = ℕ} 0 1 = cc in omega arith
+    go turn (ends told n f b) q = over (m .count) told n q
+    go turn (givesUp cause f c) q = let z : _≡_ {A = ℕ} 0 1 = cc in omega arith
+
+-- From the start the state is in its ranges behind any calls, and no further call is refused 15.
+pub never-15 : (line at : ℕ) → isLine line ≡ true → (calls : List Call) (call : Call) (place : ℕ)
+    → (inRanges (run (started line at) calls) ≡ true) × ¬ (after (run (started line at) calls) call .1 .0 ≡ refuses 15 place)
+never-15 line at h calls call place =
+    let k = stays-ranged (started line at) (start-ranged line at h) calls in
+    (k, not-15 (run (started line at) calls) k call place)

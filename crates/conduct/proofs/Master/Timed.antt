@@ -1,0 +1,45 @@
+-- T2 at 1,999 hears, at 2,000 ignores (01 'Bench cases'), computed. Assumes nothing.
+use mathlib.Core.Path.{_≡_, refl}
+use mathlib.Core.List.{List, [], _∷_, _++_}
+use Prim.Native.Nat.{ℕ}
+use Prim.Native.Char.{code}
+use lib.ListN.{replicate}
+use Rattle.laws.specs.Text.{codes}
+use Rattle.laws.specs.Numerals.{numeralOn, numberOn, leftOf}
+use Rattle.forms.specs.Characters.{inSet}
+use Rattle.forms.specs.Checksum.{total, checksumOf, checkText}
+use Rattle.forms.specs.Forms.{forms, onLine, lookIn, formOf, dataIn, dataType, slotsIn, countOf, slotsOf, widthIn, widthOf}
+use Rattle.forms.specs.Records.{recordOf}
+use Rattle.forms.specs.declared.records.Record.the-variants.{Approved, Train}
+use Rattle.values.specs.Packets.{packetOf, leadOf, isDecimal, permits}
+use Rattle.values.specs.Values.{permitsRecord, textOf, valueOf, bodyOf, permittedFrom, permitted, permitsValue, permitsValues, lengthOf}
+use Rattle.telegram.specs.Frame.{lf, cr, countText, summedOf, fieldOf, frameChecks}
+use Rattle.telegram.specs.Field.{outside, wrongLetter, badValue, valuesIn, misshapen, fieldChecks}
+use Rattle.telegram.specs.Reading.{recordIn, checks, readingOf}
+use Rattle.link.specs.Clock.{runOut}
+use Rattle.master.specs.declared.state.Master.{Master}
+use Rattle.master.specs.State.{sendable, inRanges, callFault, started}
+use Rattle.master.specs.Rules.{t2Limit, isFailure, answersTo, permittedAnswer}
+use Rattle.master.specs.Sending.{putOf, sendingOf, offerFault, offerOf}
+use Rattle.master.specs.Hearing.{judgedOf, frameOf, hearOf}
+use Rattle.master.specs.Answers as t
+
+-- 66 bytes of room
+abbrev room : List ℕ
+room = replicate 66 0
+
+-- on line 3, behind an offer at 100 of train 123456
+abbrev waiting : Master
+waiting = offerOf (started 3 0) 100 (Train 123456) room .0
+
+-- A with number 0 and key A, case a
+abbrev approved : List ℕ
+approved = lf ∷ (codes "08A0AAA5" ++ (cr ∷ []))
+
+pub hears-at-1999 : hearOf waiting 2099 approved room .1 .0 ≡ t.answered (Approved (code "A")) 1
+unfolding numeralOn numberOn leftOf inSet total checksumOf checkText forms onLine lookIn formOf dataIn dataType slotsIn countOf slotsOf widthIn widthOf recordOf packetOf leadOf isDecimal permits permitsRecord textOf valueOf bodyOf permittedFrom permitted permitsValue permitsValues lengthOf countText summedOf fieldOf frameChecks outside wrongLetter badValue valuesIn misshapen fieldChecks recordIn checks readingOf runOut sendable inRanges callFault t2Limit isFailure answersTo permittedAnswer putOf sendingOf offerFault offerOf judgedOf frameOf hearOf
+hears-at-1999 = refl
+
+pub ignores-at-2000 : hearOf waiting 2100 approved room .1 .0 ≡ t.ignored t.runOut
+unfolding numeralOn leftOf inSet forms onLine lookIn formOf dataIn dataType slotsIn countOf slotsOf packetOf leadOf isDecimal permits permitsRecord textOf bodyOf permittedFrom permitted permitsValue permitsValues runOut sendable inRanges callFault t2Limit sendingOf offerFault offerOf hearOf
+ignores-at-2000 = refl

@@ -1,0 +1,13 @@
+pub mod Stepwise
+pub mod Protocol
+pub mod Laws
+pub mod Tidy
+pub mod Sim
+pub mod Numbers
+pub mod MasterKeeps
+pub mod Settled
+pub mod DeskKeeps
+pub mod Theorem
+pub mod Runs
+pub mod Spoilt
+pub mod Told

@@ -1,0 +1,5 @@
+pub mod History
+pub mod Demand
+pub mod Ends
+pub mod Rules
+pub mod Ours

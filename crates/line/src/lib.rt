@@ -1,0 +1,1 @@
+// Both ends over one line: demand 3. Theorems only.
