@@ -3,11 +3,14 @@
 
 pub mod clock;
 pub mod cutting;
+pub mod demand;
+pub mod demo;
 pub mod desk;
 pub mod exchange;
 pub mod listing;
 pub mod making;
 pub mod master;
+pub mod program;
 pub mod random;
 pub mod reading;
 pub mod records;

@@ -1,0 +1,122 @@
+//! The sentences of demand 3, judged on what happened in a run.
+
+/// What happened, oldest first. A telegram is its ordinal among the first sendings; an answer
+/// is its bytes.
+#[derive(Debug, Clone, PartialEq, Eq)]
+pub enum Item {
+    Sent(usize),
+    Again(usize),
+    Noted,
+    Handled(usize, String),
+    Over(usize),
+    Answered(usize, String, usize),
+    GivenUp(usize, usize),
+}
+
+/// A sentence of the demand, and whether it holds.
+pub type Judged = (&'static str, bool);
+
+/// The telegrams that were handled, each with the answer made for it.
+fn handled(history: &[Item]) -> Vec<(usize, &str)> {
+    let made = |item| match item {
+        &Item::Handled(telegram, ref answer) => Some((telegram, answer.as_str())),
+        _ => None,
+    };
+    history.iter().filter_map(made).collect()
+}
+
+/// The telegrams that were answered, each with the answer it got.
+fn answered(history: &[Item]) -> Vec<(usize, &str)> {
+    let got = |item| match item {
+        &Item::Answered(telegram, ref answer, _) => Some((telegram, answer.as_str())),
+        _ => None,
+    };
+    history.iter().filter_map(got).collect()
+}
+
+/// The desk notes no lost line from handling a telegram until its last sending was over.
+pub fn supposed(history: &[Item]) -> bool {
+    history.iter().enumerate().all(|(place, item)| {
+        let (before, behind) = history.split_at(place);
+        *item != Item::Noted
+            || handled(before)
+                .iter()
+                .all(|(telegram, _)| !behind.contains(&Item::Over(*telegram)))
+    })
+}
+
+fn none_twice(history: &[Item]) -> bool {
+    let telegrams = handled(history);
+    let mut pairs = telegrams.iter().zip(telegrams.iter().skip(1));
+    pairs.all(|(one, next)| one.0 < next.0)
+}
+
+fn none_unsent(history: &[Item]) -> bool {
+    history.iter().enumerate().all(|(place, item)| match item {
+        Item::Handled(telegram, _) => history
+            .iter()
+            .take(place)
+            .any(|before| *before == Item::Sent(*telegram)),
+        _ => true,
+    })
+}
+
+/// Each answered telegram was handled with that answer, unless it is the first since one was
+/// given up.
+fn was_handled(history: &[Item]) -> bool {
+    let mut calm = true;
+    for (place, item) in history.iter().enumerate() {
+        match item {
+            Item::GivenUp(..) => calm = false,
+            Item::Answered(telegram, answer, _) => {
+                let (before, _) = history.split_at(place);
+                if calm && !handled(before).contains(&(*telegram, answer.as_str())) {
+                    return false;
+                }
+                calm = true;
+            }
+            _ => {}
+        }
+    }
+    true
+}
+
+/// Where none was given up: answered and handled agree but for perhaps the last handled.
+fn all_answered(history: &[Item]) -> bool {
+    let (made, got) = (handled(history), answered(history));
+    let given_up = history.iter().any(|item| matches!(item, Item::GivenUp(..)));
+    given_up || got == made || made.split_last().is_some_and(|(_, rest)| got == rest)
+}
+
+/// The count of each report is the number of sendings of its telegram.
+fn counts(history: &[Item]) -> bool {
+    history.iter().enumerate().all(|(place, item)| match item {
+        Item::Answered(telegram, _, count) | Item::GivenUp(telegram, count) => {
+            let sendings = history.iter().take(place).filter(|before| {
+                **before == Item::Sent(*telegram) || **before == Item::Again(*telegram)
+            });
+            sendings.count() == *count
+        }
+        _ => true,
+    })
+}
+
+/// The demand's sentences on a history.
+pub fn judge(history: &[Item]) -> Vec<Judged> {
+    vec![
+        (
+            "handled in the order first sent, none twice",
+            none_twice(history),
+        ),
+        ("none handled that was not sent", none_unsent(history)),
+        (
+            "answered ones were handled, but for the first since a giving up",
+            was_handled(history),
+        ),
+        (
+            "if none was given up, answered and handled agree but perhaps for the last",
+            all_answered(history),
+        ),
+        ("each reported count is the sendings made", counts(history)),
+    ]
+}

@@ -1,0 +1,381 @@
+//! Runs both ends over a simulated line and writes the exchange as a time line: demand 3,
+//! and document 01, 'Link rules'. The ends are reached by the rows of docs/SCENES.md, so that
+//! the program `scenes` or the second version can stand behind them.
+
+use crate::demand::{judge, supposed, Item};
+use crate::making::any_form;
+use crate::random::Random;
+use crate::reading::{read, Reading, CR, LF};
+use crate::records::{by_master, data_type, Record};
+use crate::script::{shown, Bench};
+
+/// Two ends that answer rows.
+pub trait Ends {
+    /// What a row's call answers, without the row itself.
+    fn call(&mut self, row: &str) -> String;
+}
+
+impl Ends for Bench {
+    fn call(&mut self, row: &str) -> String {
+        self.row(row).lines().nth(1).unwrap_or("").trim().into()
+    }
+}
+
+/// What becomes of a thing on the line.
+enum Fate {
+    Whole,
+    Spoiled,
+    Lost,
+}
+
+/// A sending or an answer under way, and when it arrives.
+struct Flight {
+    to_desk: bool,
+    frame: String,
+    at: u32,
+}
+
+/// A run: the time line so far, what happened, and what is under way.
+struct Run<'a, E> {
+    ends: &'a mut E,
+    random: Random,
+    line: u8,
+    now: u32,
+    text: String,
+    history: Vec<Item>,
+    flight: Option<Flight>,
+    free: bool,
+    sent: usize,
+}
+
+/// The line is dead between these times, in milliseconds: longer than T1.
+const DEAD: std::ops::Range<u32> = 30_000..64_000;
+
+/// Runs both ends on a line for so long from a seed; the time line and the history.
+pub fn run<E: Ends>(ends: &mut E, line: u8, seed: u64, duration: u32) -> (String, Vec<Item>) {
+    let mut run = Run {
+        ends,
+        random: Random::seeded(seed),
+        line,
+        now: 0,
+        text: String::new(),
+        history: Vec::new(),
+        flight: None,
+        free: true,
+        sent: 0,
+    };
+    run.ends.call(&format!("desk start {line}"));
+    run.ends.call(&format!("master start {line} 0"));
+    while run.now < duration {
+        run.now += 10;
+        run.turn();
+    }
+    run.close();
+    (run.text, run.history)
+}
+
+/// A telegram's bytes as a row shows them.
+fn bytes_of(frame: &str) -> Vec<u8> {
+    let byte = |byte| match byte {
+        b'<' => LF,
+        b'>' => CR,
+        other => other,
+    };
+    frame.bytes().map(byte).collect()
+}
+
+/// The packets of a telegram, each a letter with its value.
+fn packets(reading: &Reading) -> String {
+    let packet = |(letter, value): &(char, String)| format!("{letter}{value}");
+    let packets: Vec<String> = reading.packets.iter().map(packet).collect();
+    packets.join(" ")
+}
+
+/// A telegram as type, number and packets.
+fn readable(line: u8, frame: &str) -> String {
+    match read(line, &bytes_of(frame)) {
+        Ok(reading) => format!(
+            "{} {}  {}",
+            char::from(reading.type_byte),
+            reading.number,
+            packets(&reading)
+        ),
+        Err(_) => frame.into(),
+    }
+}
+
+/// In words where an answer comes from.
+fn in_words(source: &str) -> &str {
+    match source.split(' ').next() {
+        Some("requested") => "the record set for r",
+        Some("queue") => "the oldest queued record",
+        Some("key") => "nothing is queued",
+        Some("panel") => "its record goes to the panel",
+        Some("nothing") => "nothing is set for r",
+        _ => source,
+    }
+}
+
+/// The bytes that an answer shows, between `bytes` and the state.
+fn bytes_in(answer: &str) -> String {
+    let sent = answer.rsplit_once(';').map_or(answer, |parts| parts.0);
+    sent.split_once(" bytes ")
+        .map_or("", |parts| parts.1)
+        .into()
+}
+
+/// The number behind `count` in an answer.
+fn count_in(answer: &str) -> usize {
+    let behind = answer.split_once("count ").map_or("", |parts| parts.1);
+    let digits = behind.split(|byte: char| !byte.is_ascii_digit()).next();
+    digits.and_then(|digits| digits.parse().ok()).unwrap_or(0)
+}
+
+impl<E: Ends> Run<'_, E> {
+    /// A line of the time line.
+    fn say(&mut self, who: &str, what: &str, why: &str) {
+        let (seconds, rest) = (self.now / 1_000, self.now % 1_000);
+        let line = format!("{seconds:>4}.{rest:03}  {who:<2} {what:<44} {why}");
+        self.text.push_str(line.trim_end());
+        self.text.push('\n');
+    }
+
+    fn turn(&mut self) {
+        if self.now == DEAD.start {
+            self.say("", "the line is dead", "");
+        }
+        if self.now == DEAD.end {
+            self.say("", "the line is back", "");
+        }
+        if let Some(flight) = self.flight.take_if(|flight| flight.at <= self.now) {
+            self.arrive(flight);
+        }
+        if self.now % 50 == 0 {
+            let answer = self.ends.call(&format!("master tick {} 66", self.now));
+            self.master(&answer, "");
+            let answer = self.ends.call(&format!("desk tick {}", self.now));
+            self.noted(&answer);
+        }
+        if self.free && self.random.one_in(150) {
+            self.offer();
+        }
+        if self.random.one_in(400) {
+            self.panel();
+        }
+    }
+
+    /// The reading of a telegram of one of these types with random permitted values.
+    fn record(&mut self, wanted: impl Fn(u8) -> bool) -> Reading {
+        loop {
+            let telegram = any_form(&mut self.random, self.line);
+            match read(self.line, &telegram) {
+                Ok(reading) if wanted(reading.type_byte) => return reading,
+                _ => {}
+            }
+        }
+    }
+
+    fn offer(&mut self) {
+        let (line, now) = (self.line, self.now);
+        let reading = self.record(|type_byte| by_master(line, type_byte));
+        let record = shown(&Record::read(line, &reading));
+        let answer = self.ends.call(&format!("master offer {now} 66 {record}"));
+        self.master(&answer, "");
+    }
+
+    fn panel(&mut self) {
+        let line = self.line;
+        let reading = self.record(|type_byte| Some(type_byte) == data_type(line));
+        let record = shown(&Record::read(line, &reading));
+        let (call, what) = match self.random.below(3) {
+            0 => ("set", "sets for r"),
+            _ => ("queue", "queues"),
+        };
+        let answer = self.ends.call(&format!("desk {call} {record}"));
+        let full = if answer.starts_with("done") {
+            ""
+        } else {
+            "refused: the queue holds 8"
+        };
+        self.say("P", &format!("{what} {}", packets(&reading)), full);
+    }
+
+    /// What a call of the master told.
+    fn master(&mut self, answer: &str, heard: &str) {
+        let (frame, count) = (bytes_in(answer), count_in(answer));
+        let what = readable(self.line, &frame);
+        if answer.starts_with("sent again") {
+            self.say("M>", &what, &format!("sending {count}"));
+            self.history.push(Item::Again(self.sent));
+        } else if answer.starts_with("sent") || answer.starts_with("polled") {
+            let poll = if answer.starts_with("polled") {
+                ", a poll"
+            } else {
+                ""
+            };
+            self.free = false;
+            self.sent += 1;
+            self.history.push(Item::Sent(self.sent));
+            self.say(
+                "M>",
+                &what,
+                &format!("telegram {}, sending 1{poll}", self.sent),
+            );
+        } else if answer.starts_with("answered") || answer.starts_with("another kind") {
+            self.free = true;
+            self.history
+                .push(Item::Answered(self.sent, heard.into(), count));
+            let kind = if answer.starts_with("another") {
+                ", of another kind"
+            } else {
+                ""
+            };
+            self.say(
+                "M",
+                &format!("telegram {} answered{kind}", self.sent),
+                &format!("sendings {count}"),
+            );
+        } else if let Some((cause, _)) = answer
+            .strip_prefix("given up, ")
+            .and_then(|rest| rest.split_once(','))
+        {
+            self.free = true;
+            self.flight = None;
+            self.history.push(Item::GivenUp(self.sent, count));
+            self.say(
+                "M",
+                &format!("telegram {} given up: {cause}", self.sent),
+                &format!("sendings {count}"),
+            );
+        }
+        if !frame.is_empty() {
+            self.fly(true, frame);
+        }
+    }
+
+    fn noted(&mut self, answer: &str) {
+        if answer.starts_with("line noted lost") {
+            self.history.push(Item::Noted);
+            self.say("S", "notes a lost line", "");
+        }
+    }
+
+    /// Puts a thing on the line; ten bits a byte at 9,600 a second.
+    fn fly(&mut self, to_desk: bool, frame: String) {
+        let at = self.now + 10 + frame.len() as u32 * 10 / 9;
+        self.flight = Some(Flight { to_desk, frame, at });
+    }
+
+    fn fate(&mut self) -> Fate {
+        match self.random.below(12) {
+            _ if DEAD.contains(&self.now) => Fate::Lost,
+            0 => Fate::Lost,
+            1 => Fate::Spoiled,
+            _ => Fate::Whole,
+        }
+    }
+
+    /// A frame with one character changed, so that checks 1 to 7 refuse it.
+    fn spoiled(&mut self, frame: &str) -> String {
+        loop {
+            let mut bytes = frame.as_bytes().to_vec();
+            let index = self.random.from_to(1, bytes.len().saturating_sub(2));
+            if let Some(byte) = bytes.get_mut(index) {
+                *byte = self.random.one_of(b"0123456789ABCDEF+-");
+            }
+            let text = String::from_utf8_lossy(&bytes).into_owned();
+            if matches!(read(self.line, &bytes_of(&text)), Err((1..=7, _))) {
+                return text;
+            }
+        }
+    }
+
+    fn arrive(&mut self, flight: Flight) {
+        let fate = self.fate();
+        let what = if flight.to_desk { "sending" } else { "answer" };
+        let frame = match fate {
+            Fate::Lost => {
+                self.say("", &format!("the {what} is lost"), "");
+                if flight.to_desk {
+                    self.history.push(Item::Over(self.sent));
+                }
+                return;
+            }
+            Fate::Spoiled => {
+                let spoiled = self.spoiled(&flight.frame);
+                self.say("", &format!("the {what} is spoiled: {spoiled}"), "");
+                spoiled
+            }
+            Fate::Whole => flight.frame,
+        };
+        if flight.to_desk {
+            self.desk_hears(&frame);
+        } else {
+            let answer = self
+                .ends
+                .call(&format!("master hear {} 66 {frame}", self.now));
+            self.master(&answer, &frame);
+        }
+    }
+
+    fn desk_hears(&mut self, frame: &str) {
+        let answer = self
+            .ends
+            .call(&format!("desk hear {} 66 {frame}", self.now));
+        self.noted(&answer);
+        let did = answer
+            .strip_prefix("line noted lost, ")
+            .unwrap_or(&answer)
+            .to_string();
+        let made = bytes_in(&did);
+        let source = did.split_once(" bytes ").map_or("", |parts| parts.0);
+        let source = source.rsplit_once(", ").map_or("", |parts| parts.0);
+        let why = in_words(source.strip_prefix("handled, ").unwrap_or(""));
+        if did.starts_with("handled") {
+            self.history.push(Item::Handled(self.sent, made.clone()));
+            self.say(
+                "S>",
+                &readable(self.line, &made),
+                &format!("handles telegram {}: {why}", self.sent),
+            );
+        } else if did.starts_with("repeat") {
+            self.say(
+                "S>",
+                &readable(self.line, &made),
+                "a repeat: the stored answer again",
+            );
+        } else if did.starts_with("fault") {
+            self.say("S>", &readable(self.line, &made), "checksum wrong");
+        } else {
+            self.say("S", "silent", "");
+        }
+        self.history.push(Item::Over(self.sent));
+        if !made.is_empty() {
+            self.fly(false, made);
+        }
+    }
+
+    /// The sums, and the demand's sentences on what happened.
+    fn close(&mut self) {
+        let count =
+            |wanted: fn(&Item) -> bool| self.history.iter().filter(|item| wanted(item)).count();
+        let sums = format!(
+            "{} telegrams sent, {} sent again; {} handled, {} answered, {} given up; {} lost lines noted\n",
+            count(|item| matches!(item, Item::Sent(_))),
+            count(|item| matches!(item, Item::Again(_))),
+            count(|item| matches!(item, Item::Handled(..))),
+            count(|item| matches!(item, Item::Answered(..))),
+            count(|item| matches!(item, Item::GivenUp(..))),
+            count(|item| matches!(item, Item::Noted)),
+        );
+        self.text.push('\n');
+        self.text.push_str(&sums);
+        let yes = |holds: bool| if holds { "yes" } else { "NO" };
+        let held = supposed(&self.history);
+        self.text.push_str(&format!("{:>4}  supposed: no lost line noted from handling a telegram until its last sending is over\n", yes(held)));
+        for (sentence, holds) in judge(&self.history) {
+            self.text
+                .push_str(&format!("{:>4}  {sentence}\n", yes(holds)));
+        }
+    }
+}

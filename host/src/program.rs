@@ -1,0 +1,50 @@
+//! The program `scenes`, asked a row at a time.
+
+use crate::demo::Ends;
+use std::ffi::OsStr;
+use std::io::{BufRead, BufReader, Result, Write};
+use std::process::{Child, ChildStdin, ChildStdout, Command, Stdio};
+
+/// The running program; it ends when this is dropped, as its input ends then.
+pub struct Program {
+    child: Child,
+    input: Option<ChildStdin>,
+    output: BufReader<ChildStdout>,
+}
+
+impl Program {
+    /// Starts the program at a path.
+    pub fn start(path: impl AsRef<OsStr>) -> Result<Program> {
+        let mut child = Command::new(path)
+            .stdin(Stdio::piped())
+            .stdout(Stdio::piped())
+            .spawn()?;
+        let input = child.stdin.take();
+        let output = child.stdout.take().ok_or(std::io::ErrorKind::BrokenPipe)?;
+        Ok(Program {
+            child,
+            input,
+            output: BufReader::new(output),
+        })
+    }
+}
+
+impl Ends for Program {
+    fn call(&mut self, row: &str) -> String {
+        let mut lines = [String::new(), String::new()];
+        if let Some(input) = &mut self.input {
+            writeln!(input, "{row}").expect("the program takes a row");
+        }
+        for line in &mut lines {
+            self.output.read_line(line).expect("the program answers");
+        }
+        lines[1].trim().into()
+    }
+}
+
+impl Drop for Program {
+    fn drop(&mut self) {
+        drop(self.input.take());
+        let _ = self.child.wait();
+    }
+}

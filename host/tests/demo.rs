@@ -1,0 +1,138 @@
+//! Both ends over a simulated line: demand 3 on what happened, and the kept exchange.
+
+use host::demand::{judge, supposed, Item};
+use host::demo::run;
+use host::program::Program;
+use host::script::Bench;
+use std::path::{Path, PathBuf};
+
+/// A path in the repository.
+fn repository(path: &str) -> PathBuf {
+    Path::new(env!("CARGO_MANIFEST_DIR")).join("..").join(path)
+}
+
+/// The program `scenes`, started.
+fn program() -> Program {
+    Program::start(repository("target/bin/scenes")).expect("build the program scenes first")
+}
+
+/// The exchange that `make demo` shows.
+#[test]
+fn kept_exchange() {
+    let kept = std::fs::read_to_string(repository("samples/exchange.txt")).expect("it is read");
+    assert_eq!(run(&mut program(), 1, 33, 90_000).0, kept);
+}
+
+/// Runs from many seeds: the two versions of the ends say the same, and demand 3 holds.
+#[test]
+fn many_exchanges() {
+    let mut program = program();
+    let mut reached = [false; 4];
+    for seed in 0..20 {
+        for line in 1..=3 {
+            let (text, history) = run(&mut program, line, seed, 90_000);
+            let (second, _) = run(&mut Bench::new(), line, seed, 90_000);
+            assert_eq!(text, second, "line {line}, seed {seed}");
+            assert!(
+                supposed(&history),
+                "line {line}, seed {seed}: the supposition"
+            );
+            for (sentence, holds) in judge(&history) {
+                assert!(holds, "line {line}, seed {seed}: {sentence}");
+            }
+            let handled = |wanted: usize| {
+                let is =
+                    |item: &Item| matches!(item, Item::Handled(telegram, _) if *telegram == wanted);
+                history.iter().any(is)
+            };
+            let unhandled =
+                |item: &Item| matches!(item, Item::Answered(telegram, ..) if !handled(*telegram));
+            reached[0] |= history.contains(&Item::Noted);
+            reached[1] |= history.iter().any(|item| matches!(item, Item::GivenUp(..)));
+            reached[2] |= history.iter().any(unhandled);
+            reached[3] |= history
+                .iter()
+                .all(|item| !matches!(item, Item::GivenUp(..)));
+        }
+    }
+    let [noted, given_up, unhandled, calm] = reached;
+    assert!(noted, "a lost line is noted in one of them");
+    assert!(given_up, "a telegram is given up in one of them");
+    assert!(
+        unhandled,
+        "one is answered and not handled, the first since a giving up"
+    );
+    assert!(!calm, "the dead time makes each of them give one up");
+}
+
+/// Short runs, in which none is given up: answered and handled agree.
+#[test]
+fn calm_exchanges() {
+    let mut program = program();
+    let mut calm = 0;
+    for seed in 100..130 {
+        let (_, history) = run(&mut program, 2, seed, 20_000);
+        calm += usize::from(!history.iter().any(|item| matches!(item, Item::GivenUp(..))));
+        assert!(
+            judge(&history).iter().all(|(_, holds)| *holds),
+            "seed {seed}"
+        );
+    }
+    assert!(calm > 10, "most of them give none up");
+}
+
+/// What the judge says of a history, as letters: y or n for each sentence.
+fn letters(history: &[Item]) -> String {
+    let letter = |(_, holds): &(&str, bool)| if *holds { 'y' } else { 'n' };
+    judge(history).iter().map(letter).collect()
+}
+
+/// Histories that break a sentence each.
+#[test]
+fn judge_sees() {
+    use Item::*;
+    let a = || "A".to_string();
+    let b = || "B".to_string();
+    assert_eq!(
+        letters(&[Sent(1), Handled(1, a()), Over(1), Answered(1, a(), 1)]),
+        "yyyyy"
+    );
+    assert_eq!(
+        letters(&[Sent(1), Handled(1, a()), Again(1), Handled(1, b())]),
+        "nyyny"
+    );
+    assert_eq!(letters(&[Sent(1), Handled(2, a())]), "ynyyy");
+    assert_eq!(letters(&[Sent(1), Answered(1, a(), 1)]), "yynny");
+    assert_eq!(
+        letters(&[Sent(1), Handled(1, a()), Answered(1, b(), 1)]),
+        "yynny"
+    );
+    assert_eq!(
+        letters(&[Sent(1), Handled(1, a()), Sent(2), Handled(2, a())]),
+        "yyyny"
+    );
+    assert_eq!(
+        letters(&[Sent(1), Handled(1, a()), Again(1), Answered(1, a(), 1)]),
+        "yyyyn"
+    );
+    assert_eq!(
+        letters(&[
+            Sent(1),
+            Handled(1, a()),
+            GivenUp(1, 1),
+            Sent(2),
+            Answered(2, a(), 1)
+        ]),
+        "yyyyy"
+    );
+    assert!(!supposed(&[
+        Sent(1),
+        Handled(1, a()),
+        Over(1),
+        Noted,
+        Again(1),
+        Handled(1, b()),
+        Over(1)
+    ]));
+    assert!(supposed(&[Sent(1), Handled(1, a()), Over(1), Noted]));
+}
