@@ -1,0 +1,26 @@
+// Runs a script from standard input: calls of one desk and one master, a row each, and what each answers. docs/SCENES.md has the rows in full.
+//
+//     desk start LINE                  master start LINE TIME
+//     desk tick TIME                   master tick TIME ROOM
+//     desk hear TIME ROOM FRAME        master hear TIME ROOM FRAME
+//     desk queue RECORD                master offer TIME ROOM RECORD
+//     desk set RECORD
+//     desk key BYTES
+//     desk show                        master show
+//     desk alter FIELD N               master alter FIELD N
+//     elapsed NOW START
+//
+// A RECORD is a type and its values as decimal numbers, B 125 90 120 88. A FRAME is bytes: < for LF, > for CR, =HH for the byte HH hex.
+// A row that names no call, as # and a text, is only said again.
+mod desks;
+mod masters;
+mod rows;
+mod script;
+mod show;
+mod words;
+
+fn main() {
+    let mut buf = [0u8; 65536];
+    let mut row = [0u8; 1024];
+    script::run(&mut buf, &mut row);
+}
