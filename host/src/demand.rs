@@ -120,3 +120,25 @@ pub fn judge(history: &[Item]) -> Vec<Judged> {
         ("each reported count is the sendings made", counts(history)),
     ]
 }
+
+/// The sums of a history, and the demand's sentences on it, in lines.
+pub fn summary(history: &[Item]) -> String {
+    let count = |wanted: fn(&Item) -> bool| history.iter().filter(|item| wanted(item)).count();
+    let mut text = format!(
+        "{} telegrams sent, {} sent again; {} handled, {} answered, {} given up; {} lost lines noted\n",
+        count(|item| matches!(item, Item::Sent(_))),
+        count(|item| matches!(item, Item::Again(_))),
+        count(|item| matches!(item, Item::Handled(..))),
+        count(|item| matches!(item, Item::Answered(..))),
+        count(|item| matches!(item, Item::GivenUp(..))),
+        count(|item| matches!(item, Item::Noted)),
+    );
+    let supposition =
+        "supposed: no lost line noted from handling a telegram until its last sending is over";
+    let judged = judge(history);
+    for (sentence, holds) in [(supposition, supposed(history))].iter().chain(&judged) {
+        let word = if *holds { "yes" } else { "NO" };
+        text.push_str(&format!("{word:>4}  {sentence}\n"));
+    }
+    text
+}

@@ -2,12 +2,14 @@
 //! and document 01, 'Link rules'. The ends are reached by the rows of docs/SCENES.md, so that
 //! the program `scenes` or the second version can stand behind them.
 
-use crate::demand::{judge, supposed, Item};
+use crate::demand::{summary, Item};
 use crate::making::any_form;
 use crate::random::Random;
-use crate::reading::{read, Reading, CR, LF};
+use crate::reading::{read, Reading};
 use crate::records::{by_master, data_type, Record};
-use crate::script::{shown, Bench};
+use crate::script::Bench;
+use crate::timeline::{bytes_in, bytes_of, count_in, in_words, packets, readable};
+use crate::words::shown;
 
 /// Two ends that answer rows.
 pub trait Ends {
@@ -70,65 +72,9 @@ pub fn run<E: Ends>(ends: &mut E, line: u8, seed: u64, duration: u32) -> (String
         run.now += 10;
         run.turn();
     }
-    run.close();
+    run.text.push('\n');
+    run.text.push_str(&summary(&run.history));
     (run.text, run.history)
-}
-
-/// A telegram's bytes as a row shows them.
-fn bytes_of(frame: &str) -> Vec<u8> {
-    let byte = |byte| match byte {
-        b'<' => LF,
-        b'>' => CR,
-        other => other,
-    };
-    frame.bytes().map(byte).collect()
-}
-
-/// The packets of a telegram, each a letter with its value.
-fn packets(reading: &Reading) -> String {
-    let packet = |(letter, value): &(char, String)| format!("{letter}{value}");
-    let packets: Vec<String> = reading.packets.iter().map(packet).collect();
-    packets.join(" ")
-}
-
-/// A telegram as type, number and packets.
-fn readable(line: u8, frame: &str) -> String {
-    match read(line, &bytes_of(frame)) {
-        Ok(reading) => format!(
-            "{} {}  {}",
-            char::from(reading.type_byte),
-            reading.number,
-            packets(&reading)
-        ),
-        Err(_) => frame.into(),
-    }
-}
-
-/// In words where an answer comes from.
-fn in_words(source: &str) -> &str {
-    match source.split(' ').next() {
-        Some("requested") => "the record set for r",
-        Some("queue") => "the oldest queued record",
-        Some("key") => "nothing is queued",
-        Some("panel") => "its record goes to the panel",
-        Some("nothing") => "nothing is set for r",
-        _ => source,
-    }
-}
-
-/// The bytes that an answer shows, between `bytes` and the state.
-fn bytes_in(answer: &str) -> String {
-    let sent = answer.rsplit_once(';').map_or(answer, |parts| parts.0);
-    sent.split_once(" bytes ")
-        .map_or("", |parts| parts.1)
-        .into()
-}
-
-/// The number behind `count` in an answer.
-fn count_in(answer: &str) -> usize {
-    let behind = answer.split_once("count ").map_or("", |parts| parts.1);
-    let digits = behind.split(|byte: char| !byte.is_ascii_digit()).next();
-    digits.and_then(|digits| digits.parse().ok()).unwrap_or(0)
 }
 
 impl<E: Ends> Run<'_, E> {
@@ -352,30 +298,6 @@ impl<E: Ends> Run<'_, E> {
         self.history.push(Item::Over(self.sent));
         if !made.is_empty() {
             self.fly(false, made);
-        }
-    }
-
-    /// The sums, and the demand's sentences on what happened.
-    fn close(&mut self) {
-        let count =
-            |wanted: fn(&Item) -> bool| self.history.iter().filter(|item| wanted(item)).count();
-        let sums = format!(
-            "{} telegrams sent, {} sent again; {} handled, {} answered, {} given up; {} lost lines noted\n",
-            count(|item| matches!(item, Item::Sent(_))),
-            count(|item| matches!(item, Item::Again(_))),
-            count(|item| matches!(item, Item::Handled(..))),
-            count(|item| matches!(item, Item::Answered(..))),
-            count(|item| matches!(item, Item::GivenUp(..))),
-            count(|item| matches!(item, Item::Noted)),
-        );
-        self.text.push('\n');
-        self.text.push_str(&sums);
-        let yes = |holds: bool| if holds { "yes" } else { "NO" };
-        let held = supposed(&self.history);
-        self.text.push_str(&format!("{:>4}  supposed: no lost line noted from handling a telegram until its last sending is over\n", yes(held)));
-        for (sentence, holds) in judge(&self.history) {
-            self.text
-                .push_str(&format!("{:>4}  {sentence}\n", yes(holds)));
         }
     }
 }

@@ -16,3 +16,5 @@ pub mod reading;
 pub mod records;
 pub mod script;
 pub mod scripting;
+pub mod timeline;
+pub mod words;

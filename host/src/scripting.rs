@@ -5,7 +5,8 @@ use crate::making::{any_form, damaged, noise, DAMAGES};
 use crate::random::Random;
 use crate::reading::{forms_on, read};
 use crate::records::{data_type, Record};
-use crate::script::{in_row, shown, Bench};
+use crate::script::Bench;
+use crate::words::{in_row, shown};
 
 /// Steps of the clock: short ones, and those next to the limits of T2, T0 and T1.
 const STEPS: [u32; 12] = [
