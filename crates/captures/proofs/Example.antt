@@ -8,8 +8,8 @@ use mathlib.Core.Bool.{false}
 use Rattle.laws.specs.Truth.{from}
 use Rattle.laws.specs.Text.{codes}
 use Rattle.laws.specs.Numerals.{numeralOn, numberOn}
-use Rattle.forms.specs.Characters.{inSet}
-use Rattle.forms.specs.Checksum.{total, checksumOf, checkText}
+use Rattle.characters.specs.Characters.{inSet}
+use Rattle.characters.specs.Checksum.{total, checksumOf, checkText}
 use Rattle.forms.specs.Forms.{forms, onLine, lookIn, formOf, dataIn, dataType, slotsIn, countOf, slotsOf, widthIn, widthOf}
 use Rattle.forms.specs.Records.{recordOf}
 use Rattle.values.specs.Packets.{packetOf, leadOf, isDecimal, permits}
@@ -19,8 +19,8 @@ use Rattle.telegram.specs.Field.{outside, wrongLetter, badValue, valuesIn, miss
 use Rattle.telegram.specs.Reading.{recordIn, checks, readingOf}
 use Rattle.cutting.specs.Turns.{turnOf}
 use Rattle.cutting.specs.Search.{cutFrom, spanOf}
-use Rattle.captures.specs.Numbers.{countOn, digitCount, decimalText}
-use Rattle.captures.specs.Lines.{lineText}
+use Rattle.lines.specs.Numbers.{countOn, digitCount, decimalText}
+use Rattle.lines.specs.Lines.{lineText}
 use Rattle.captures.specs.Pieces.{spansOn, spansOf, lineAt, linesIn, linesOf, lineDigit, listingOf}
 
 -- a telegram, and a line of text

@@ -1,5 +1,3 @@
-pub mod Puts
-pub mod Counts
 pub mod Tails
 pub mod Spans
 pub mod Listings

@@ -13,12 +13,12 @@ use Rattle.telegram.specs.Answers.{Outcome, wrote, refusesTo, answerOf, outcome
 use Rattle.telegram.specs.Reading.{readingOf}
 use Rattle.telegram.specs.declared.answers.Reading.{Reading}
 use Rattle.telegram.specs.declared.answers.Writing.{Writing}
-use Rattle.telegram.specs.Writing.{Write}
+use Rattle.writing.specs.Writing.{Write}
 use Rattle.cutting.specs.declared.search.Span.{Span}
 use Rattle.cutting.specs.declared.search.Span.the-variants.{Found, Nothing}
 use Rattle.cutting.specs.Search.{spanOf, partOf}
-use Rattle.captures.specs.Numbers.{puts}
-use Rattle.captures.specs.Lines.{lineRoom, putting, linePut}
+use Rattle.lines.specs.Numbers.{puts}
+use Rattle.lines.specs.Lines.{lineRoom, putting, linePut}
 use Rattle.captures.specs.Pieces.{spansOf, wrapped, lineAt, stepFor, stepAt, stepOf, stopped, listedIn}
 use Rattle.captures.proofs.Spans.{found-within, spans-step}
 use Rattle.captures.specs.declared.pieces.Step as step

@@ -15,8 +15,8 @@ use Rattle.cutting.specs.declared.search.Span.{Span}
 use Rattle.cutting.specs.declared.search.Span.the-variants.{Found, Nothing}
 use Rattle.cutting.specs.Search.{spanOf, partOf}
 use Rattle.captures.specs.declared.pieces.Listed.{Listed}
-use Rattle.captures.specs.Numbers.{puts}
-use Rattle.captures.specs.Lines.{lineText, lineRoom, putting}
+use Rattle.lines.specs.Numbers.{puts}
+use Rattle.lines.specs.Lines.{lineText, lineRoom, putting}
 use Rattle.captures.specs.declared.pieces.Step as step
 
 -- what a search finds, before what later searches find from its end on

@@ -1,5 +1,3 @@
-// The lines that the listing program prints (01 'Bench cases'), and reading a capture in pieces.
-pub mod lines;
-pub mod numbers;
+// The lines of a capture, piece by piece (01, the end of 'Bench cases').
 pub mod pieces;
 pub mod places;

@@ -3,7 +3,7 @@ ghost use mathlib.Core.Path.{_≡_};
 ghost use Rattle.captures.specs.Places.{atFirst, placeBehind, atEnd};
 use crate::pieces::Listed;
 use crate::pieces::kept_from;
-use forms::slices::less;
+use characters::slices::less;
 
 // How many bytes are kept, the next telegram's ordinal, the offset of the first byte kept, and whether to go on.
 pub struct Place {

@@ -2,8 +2,8 @@
 use crate::show;
 use forms::refusals::number_of;
 use forms::refusals::place_of;
-use forms::slices::part;
-use forms::slices::wide;
+use characters::slices::part;
+use characters::slices::wide;
 use telegram::answers::Reading;
 use telegram::reading::read;
 

@@ -5,14 +5,14 @@ use crate::fields::field;
 use crate::fields::make_visible;
 use crate::fields::means;
 use crate::show;
-use forms::checksum::checksum;
+use characters::checksum::checksum;
 use forms::records::Record;
 use forms::records::record_of;
-use forms::slices::byte_at;
-use forms::slices::part;
+use characters::slices::byte_at;
+use characters::slices::part;
 use telegram::answers::Writing;
 use telegram::reading::read;
-use telegram::writing::write;
+use writing::writing::write;
 
 fn byte(text: &[u8]) -> u8 {
     (decimal(text) % 256) as u8

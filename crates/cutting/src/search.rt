@@ -4,8 +4,8 @@ ghost use Rattle.cutting.specs.Search.{spanOf, partOf, startOf, placed, 
 use crate::turns::Turn;
 use crate::turns::turn_of;
 use forms::refusals::Refusal;
-use forms::slices::less;
-use forms::slices::part;
+use characters::slices::less;
+use characters::slices::part;
 use forms::table::is_line;
 use telegram::answers::Reading;
 use telegram::reading::read;

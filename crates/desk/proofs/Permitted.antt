@@ -13,7 +13,7 @@ use Rattle.laws.specs.Text.{codes}
 use Rattle.laws.proofs.Truths.{both-left, both-right}
 use Rattle.laws.proofs.Passes.{on-test, oneOf-passes, from-passes}
 use Rattle.laws.specs.Numerals.{numeralOn, leftOf}
-use Rattle.forms.specs.Characters.{inSet}
+use Rattle.characters.specs.Characters.{inSet}
 use Rattle.forms.specs.Forms.{isLine, forms, onLine, lookIn, formOf, slotsIn, countOf, slotsOf, dataType, dataIn}
 use Rattle.forms.specs.Records.{typeOf}
 use Rattle.forms.specs.declared.records.Record.the-variants.{Approved, Rejected}

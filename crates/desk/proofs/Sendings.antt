@@ -11,7 +11,7 @@ use Rattle.forms.specs.declared.records.Record.the-variants.{Rejected}
 use Rattle.values.specs.Values.{permitsRecord, lengthOf}
 use Rattle.forms.specs.Refusals.{numberOf, placeOf}
 use Rattle.telegram.specs.Answers.{Outcome, wrote, refusesTo, outcomeOf}
-use Rattle.telegram.specs.Writing.{Write, telegramOf, writingOf}
+use Rattle.writing.specs.Writing.{Write, telegramOf, writingOf}
 use Rattle.telegram.specs.declared.answers.Writing.{Writing}
 use Rattle.telegram.specs.declared.answers.Writing.the-variants.{Written, Refused}
 use Rattle.forms.specs.declared.refusals.Refusal.{Refusal}

@@ -5,7 +5,7 @@ ghost use Prim.Native.Nat.{_≤_, _<_};
 ghost use lib.ListN.{length, take};
 ghost use Rattle.forms.specs.declared.records.Record.the-variants.{Rejected};
 ghost use Rattle.values.specs.Values.{permitsRecord};
-ghost use Rattle.telegram.specs.Writing.{telegramOf};
+ghost use Rattle.writing.specs.Writing.{telegramOf};
 ghost use Rattle.desk.specs.State.{inRanges};
 ghost use Rattle.desk.specs.Answers.{toldOf};
 ghost use Rattle.desk.specs.Rules.{matterOf, rulingOf, numberIn};
@@ -18,7 +18,7 @@ use crate::state::Desk;
 use forms::records::Record;
 use link::counters::LastTaken;
 use telegram::answers::Writing;
-use telegram::writing::write;
+use writing::writing::write;
 
 // The state behind a hearing, beside its answer.
 pub struct Hearing {

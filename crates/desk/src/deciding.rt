@@ -8,7 +8,7 @@ use forms::records::Record;
 use forms::records::type_of;
 use forms::refusals::Refusal;
 use forms::refusals::number_of;
-use forms::slices::byte_at;
+use characters::slices::byte_at;
 use forms::table::by_master;
 use telegram::answers::Reading;
 use telegram::reading::read;

@@ -10,7 +10,7 @@ use borrow.Author.Tests.{ltb-false}
 use Rattle.laws.proofs.Passes.{on-test}
 use Rattle.forms.specs.Forms.{slotsIn, countOf, widthIn}
 use Rattle.forms.specs.declared.table.Form.{Form}
-use Rattle.forms.proofs.Parts.{part-first}
+use Rattle.characters.proofs.Parts.{part-first}
 
 -- a form has at most ten packets
 pub count-small : (f : Form) → countOf f ≤ 10

@@ -1,7 +1,4 @@
-// The telegram's parts, each after its paragraph of document 01: characters, checksum, refusals, records, table of forms.
-pub mod characters;
-pub mod checksum;
+// The records, the refusals and the table of forms (01 'Telegram forms', 'Numbered answers').
 pub mod records;
 pub mod refusals;
-pub mod slices;
 pub mod table;

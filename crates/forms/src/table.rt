@@ -3,7 +3,7 @@ ghost use mathlib.Core.Path.{_≡_};
 ghost use Prim.Native.Nat.{_≤_};
 ghost use lib.ListN.{getD};
 ghost use Rattle.forms.specs.Forms.{forms, none, isLine, onLine, formOf, byMaster, bySlave, dataType, countOf, widthOf};
-use crate::slices::wide;
+use characters::slices::wide;
 
 // A form: its type, the lines it is on, whether the master sends it (else the slave does), and its packets' letters and value lengths.
 pub struct Form {

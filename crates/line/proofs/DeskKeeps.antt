@@ -14,7 +14,7 @@ use Rattle.forms.specs.declared.records.Record.{Record}
 use Rattle.forms.specs.declared.records.Record.the-variants.{Rejected}
 use Rattle.values.specs.Values.{permitsRecord}
 use Rattle.telegram.specs.Answers.{Fault, good, fault}
-use Rattle.telegram.specs.Writing.{telegramOf}
+use Rattle.writing.specs.Writing.{telegramOf}
 use Rattle.trips.proofs.Trips.{written-reads}
 use Rattle.master.specs.Rules.{isFailure}
 use Rattle.conduct.proofs.Master.Calls.{rejects}

@@ -13,7 +13,7 @@ use Rattle.forms.specs.declared.records.Record.{Record}
 use Rattle.values.specs.Values.{permitsRecord}
 use Rattle.telegram.specs.Answers.{good}
 use Rattle.telegram.specs.Reading.{readingOf}
-use Rattle.telegram.specs.Writing.{telegramOf}
+use Rattle.writing.specs.Writing.{telegramOf}
 use Rattle.trips.proofs.Trips.{written-reads}
 use Rattle.master.specs.Answers.{Told}
 use Rattle.master.specs.State.{isFree, sendable, inRanges, withLine, startOf}

@@ -12,7 +12,7 @@ use Rattle.forms.specs.declared.records.Record.{Record}
 use Rattle.values.specs.Values.{permitsRecord}
 use Rattle.telegram.specs.Answers.{Fault, good, fault, firstFault}
 use Rattle.telegram.specs.Frame.{frameChecks}
-use Rattle.telegram.specs.Writing.{telegramOf}
+use Rattle.writing.specs.Writing.{telegramOf}
 use Rattle.trips.proofs.Faults.{faultless-good}
 use Rattle.trips.proofs.Frames.{framed-faultless}
 use Rattle.trips.proofs.Written.{written-framed, written-number}

@@ -9,8 +9,8 @@ use mathlib.Core.Logic.{inl}
 use lib.ListN.{replicate}
 use Rattle.laws.specs.Text.{codes}
 use Rattle.laws.specs.Numerals.{numeralOn, numberOn, leftOf}
-use Rattle.forms.specs.Characters.{inSet}
-use Rattle.forms.specs.Checksum.{total, checksumOf, checkText}
+use Rattle.characters.specs.Characters.{inSet}
+use Rattle.characters.specs.Checksum.{total, checksumOf, checkText}
 use Rattle.forms.specs.Forms.{forms, onLine, lookIn, formOf, dataIn, dataType, slotsIn, countOf, slotsOf, widthIn, widthOf}
 use Rattle.forms.specs.Records.{recordOf}
 use Rattle.forms.specs.declared.records.Record.the-variants.{Idling, Position, Stop, Train}
@@ -20,7 +20,7 @@ use Rattle.telegram.specs.Frame.{lf, cr, countText, summedOf, fieldOf, frameOf,
 use Rattle.telegram.specs.Frame as f
 use Rattle.telegram.specs.Field.{dataOf, outside, wrongLetter, badValue, valuesIn, misshapen, fieldChecks}
 use Rattle.telegram.specs.Reading.{recordIn, checks, readingOf}
-use Rattle.telegram.specs.Writing.{telegramOf}
+use Rattle.writing.specs.Writing.{telegramOf}
 use Rattle.link.specs.Clock.{runOut}
 use Rattle.master.specs.State.{sendable, inRanges, callFault, startOf}
 use Rattle.master.specs.Rules.{t0Limit, t2Limit, pollOf, isFailure, answersTo, permittedAnswer}

@@ -6,7 +6,7 @@ use captures::pieces::kept_from;
 use captures::pieces::line_of;
 use captures::pieces::list_part;
 use captures::places::Place;
-use forms::slices::part;
+use characters::slices::part;
 use libc::STDIN_FILENO;
 use libc::STDOUT_FILENO;
 

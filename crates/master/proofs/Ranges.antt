@@ -11,7 +11,7 @@ use Rattle.laws.proofs.Passes.{from-passes}
 use Rattle.laws.specs.Numerals.{numeralOn, leftOf}
 use Rattle.forms.specs.Forms.{isLine, byMaster, forms, onLine, lookIn, formOf, dataIn, dataType, slotsIn, countOf, slotsOf}
 use Rattle.forms.specs.Records.{typeOf}
-use Rattle.forms.specs.Characters.{inSet}
+use Rattle.characters.specs.Characters.{inSet}
 use Rattle.forms.specs.declared.records.Record.{Record}
 use Rattle.values.specs.Packets.{packetOf, leadOf, isDecimal, permits}
 use Rattle.values.specs.Values.{permitsRecord, textOf, bodyOf, permittedFrom, permitted, permitsValue, permitsValues}

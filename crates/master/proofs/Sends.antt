@@ -13,7 +13,7 @@ use Rattle.forms.specs.declared.records.Record.{Record}
 use Rattle.forms.specs.declared.refusals.Refusal.{Refusal}
 use Rattle.values.specs.Values.{permitsRecord, lengthOf}
 use Rattle.telegram.specs.Answers.{good, fault, Outcome, wrote, refusesTo, outcomeOf}
-use Rattle.telegram.specs.Writing.{telegramOf, writingOf}
+use Rattle.writing.specs.Writing.{telegramOf, writingOf}
 use Rattle.telegram.specs.declared.answers.Writing.{Writing}
 use Rattle.telegram.specs.declared.answers.Writing.the-variants.{Written, Refused}
 use Rattle.trips.proofs.Trips.{output, length-bounds}

@@ -9,7 +9,7 @@ use Rattle.forms.specs.Records.{typeOf}
 use Rattle.forms.specs.declared.records.Record.{Record}
 use Rattle.values.specs.Values.{permitsRecord, lengthOf}
 use Rattle.telegram.specs.Answers.{Fault, good, fault}
-use Rattle.telegram.specs.Writing.{telegramOf}
+use Rattle.writing.specs.Writing.{telegramOf}
 use Rattle.link.specs.Clock.{runOut}
 use Rattle.master.specs.declared.state.Master.{Master}
 use Rattle.master.specs.declared.answers.Sending.{Sending}

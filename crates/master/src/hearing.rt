@@ -17,7 +17,7 @@ use crate::state::Master;
 use crate::state::Step;
 use forms::records::Record;
 use forms::records::type_of;
-use forms::slices::byte_at;
+use characters::slices::byte_at;
 use link::clock::run_out;
 use telegram::answers::Check;
 use telegram::answers::Reading;

@@ -22,7 +22,7 @@ use link::clock::run_out;
 use link::counters::ToSend;
 use telegram::answers::Check;
 use telegram::answers::Writing;
-use telegram::writing::write;
+use writing::writing::write;
 use values::values::permits_record;
 
 // The telegram of a permitted record, at the front of an output with room for any, and its length.

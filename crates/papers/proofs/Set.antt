@@ -2,9 +2,9 @@
 use mathlib.Core.Path.{_≡_, sym}
 use mathlib.Core.Bool.{true, false}
 use Prim.Native.Nat.{ℕ, _≤_}
-use Rattle.forms.specs.Characters.{inSet}
+use Rattle.characters.specs.Characters.{inSet}
 use Rattle.forms.specs.Forms.{isLine}
-use Rattle.forms.proofs.Codes.{high}
+use Rattle.characters.proofs.Codes.{high}
 use Rattle.values.specs.Packets.{permits}
 use Rattle.trips.proofs.Bytes.{permits-set}
 

@@ -7,8 +7,8 @@ use Prim.Native.String.{String}
 use Rattle.laws.specs.Truth.{All}
 use Rattle.laws.specs.Text.{codes}
 use Rattle.laws.specs.Numerals.{numeralOn, numberOn}
-use Rattle.forms.specs.Characters.{inSet}
-use Rattle.forms.specs.Checksum.{total, checksumOf, checkText}
+use Rattle.characters.specs.Characters.{inSet}
+use Rattle.characters.specs.Checksum.{total, checksumOf, checkText}
 use Rattle.forms.specs.Forms.{forms, onLine, lookIn, formOf, dataIn, dataType, slotsIn, countOf, slotsOf, widthIn, widthOf}
 use Rattle.values.specs.Packets.{packetOf, leadOf, isDecimal, permits}
 use Rattle.values.specs.Values.{valueOf, permittedFrom, permitted}

@@ -10,8 +10,8 @@ use Rattle.laws.specs.Truth.{oneOf, every, All}
 use Rattle.laws.specs.Text.{codes}
 use Rattle.laws.specs.Numerals.{numeralOn}
 use Rattle.laws.proofs.Truths.{clash}
-use Rattle.forms.specs.Characters.{inSet}
-use Rattle.forms.specs.Checksum.{total, checksumOf, checkText}
+use Rattle.characters.specs.Characters.{inSet}
+use Rattle.characters.specs.Checksum.{total, checksumOf, checkText}
 use Rattle.forms.specs.Forms.{forms, onLine, isLine, lookIn, formOf, slotsIn, countOf, slotsOf, widthIn, widthOf}
 use Rattle.values.specs.Packets.{packetOf, permits}
 use Rattle.values.specs.Values.{permittedFrom, permitted}

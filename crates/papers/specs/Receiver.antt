@@ -8,7 +8,7 @@ use native.Mathlib.Omega.{arith}
 use lib.Dec.{ltb}
 use lib.ListN.{length, getD}
 use borrow.Author.Tests.{ltb-true, ltb-false, lt-ltb, le-ltb}
-use Rattle.forms.specs.Checksum.{total, checksumOf, hexOf, checkText}
+use Rattle.characters.specs.Checksum.{total, checksumOf, hexOf, checkText}
 use Rattle.forms.specs.declared.records.Record.{Record}
 use Rattle.telegram.specs.Answers.{accepts}
 use Rattle.telegram.specs.Frame.{summedOf, isTwo}

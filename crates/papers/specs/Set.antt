@@ -3,7 +3,7 @@ use mathlib.Core.Path.{_≡_, refl}
 use mathlib.Core.Bool.{Bool, true, false, cond}
 use Prim.Native.Nat.{ℕ, zero, suc}
 use Rattle.laws.specs.Truth.{both, every}
-use Rattle.forms.specs.Characters.{inSet}
+use Rattle.characters.specs.Characters.{inSet}
 use Rattle.forms.specs.Forms.{forms, Slot, slotsIn, countOf, slotsOf}
 use Rattle.forms.specs.declared.table.Form.{Form}
 

@@ -12,7 +12,7 @@ use desk::state::Slot;
 use desk::state::Step;
 use desk::state::Wanted;
 use forms::refusals::Refusal;
-use forms::slices::part;
+use characters::slices::part;
 use link::counters::LastTaken;
 
 // The state: line, last number taken, queued records.

@@ -4,7 +4,7 @@ use crate::rows::Call;
 use crate::show;
 use crate::words;
 use forms::records::Record;
-use forms::slices::part;
+use characters::slices::part;
 use link::counters::ToSend;
 use master::answers::Answer;
 use master::answers::Cause;

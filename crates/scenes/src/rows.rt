@@ -2,9 +2,9 @@
 ghost use Prim.Native.Nat.{_<_, _≤_};
 use forms::records::Record;
 use forms::records::record_of;
-use forms::slices::byte_at;
-use forms::slices::less;
-use forms::slices::part;
+use characters::slices::byte_at;
+use characters::slices::less;
+use characters::slices::part;
 
 // The place of the first separator from a place on, or the end.
 fn end_from(s: &[u8], separator: u8, from: usize) -> usize {

@@ -6,8 +6,8 @@ use forms::records::values_of;
 use forms::refusals::Refusal;
 use forms::refusals::number_of;
 use forms::refusals::place_of;
-use forms::slices::byte_at;
-use forms::slices::part;
+use characters::slices::byte_at;
+use characters::slices::part;
 use libc::STDOUT_FILENO;
 
 pub(crate) fn bytes(text: &[u8]) {

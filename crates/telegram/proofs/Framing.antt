@@ -8,7 +8,7 @@ use borrow.Author.Tests.{lt-leb, le-leb, eq-eqb, ne-eqb}
 use Rattle.laws.specs.Truth.{oneOf}
 use Rattle.laws.specs.Text.{codes}
 use Rattle.laws.specs.Numerals.{numeralOn}
-use Rattle.forms.specs.Checksum.{hexOf, checkText, checksumOf}
+use Rattle.characters.specs.Checksum.{hexOf, checkText, checksumOf}
 use Rattle.telegram.specs.Answers.{good, fault, firstFault}
 use Rattle.telegram.specs.Frame.{isTwo, countText, frameChecks, summedOf}
 

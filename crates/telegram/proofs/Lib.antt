@@ -3,6 +3,4 @@ pub mod Digits
 pub mod Walk
 pub mod Filled
 pub mod Narrow
-pub mod Put
 pub mod Contents
-pub mod Writes

@@ -10,10 +10,10 @@ use lib.Seq.{drop-cons, drop-drop}
 use borrow.Author.Tests.{eq-eqb, ne-eqb}
 use Rattle.laws.specs.Truth.{every}
 use Rattle.laws.proofs.Truths.{both-left, both-right}
-use Rattle.forms.specs.Characters.{inSet}
+use Rattle.characters.specs.Characters.{inSet}
 use Rattle.forms.specs.Forms.{slotsIn}
 use Rattle.values.specs.Values.{permitted, valueOf}
-use Rattle.forms.proofs.Parts.{part-first}
+use Rattle.characters.proofs.Parts.{part-first}
 use Rattle.forms.proofs.Slots.{slots-step}
 use Rattle.telegram.specs.declared.answers.Spot.the-variants.{At}
 use Rattle.telegram.specs.Field.{outside, wrongLetter, badValue, valuesIn, narrow, narrowSlot}

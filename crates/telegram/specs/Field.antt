@@ -5,7 +5,7 @@ use mathlib.Core.List.{List, [], _∷_, _++_}
 use lib.Dec.{eqb, leb}
 use lib.ListN.{length, getD, take, drop}
 use Rattle.laws.specs.Truth.{both, either}
-use Rattle.forms.specs.Characters.{inSet}
+use Rattle.characters.specs.Characters.{inSet}
 use Rattle.values.specs.Packets.{isDecimal}
 use Rattle.forms.specs.Forms.{Slot, slotsOf, widthOf, formOf}
 use Rattle.values.specs.Values.{textOf, valueOf, permitted}

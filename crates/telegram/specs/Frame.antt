@@ -8,7 +8,7 @@ use lib.ListN.{length, getD, take, drop}
 use Rattle.laws.specs.Truth.{both, oneOf}
 use Rattle.laws.specs.Text.{codes}
 use Rattle.laws.specs.Numerals.{numeral}
-use Rattle.forms.specs.Checksum.{checksumOf, checkText}
+use Rattle.characters.specs.Checksum.{checksumOf, checkText}
 use Rattle.telegram.specs.declared.answers.Spot.{Spot}
 use Rattle.telegram.specs.declared.answers.Spot.the-variants.{Nowhere, At}
 

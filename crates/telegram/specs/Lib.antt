@@ -2,4 +2,3 @@ pub mod Answers
 pub mod Frame
 pub mod Field
 pub mod Reading
-pub mod Writing

@@ -6,12 +6,12 @@ ghost use lib.ListN.{length, drop};
 ghost use Rattle.telegram.specs.Answers.{faultOf, firstFault};
 ghost use Rattle.telegram.specs.Frame.{isTwo, frameChecks};
 use crate::answers::Check;
-use forms::checksum::checksum;
-use forms::checksum::hex;
+use characters::checksum::checksum;
+use characters::checksum::hex;
 use forms::refusals::Refusal;
-use forms::slices::byte_at;
-use forms::slices::less;
-use forms::slices::part;
+use characters::slices::byte_at;
+use characters::slices::less;
+use characters::slices::part;
 
 // Whether the two characters at a place are these.
 fn is_two(s: &[u8], at: usize, high: u8, low: u8) -> bool
@@ -26,14 +26,14 @@ fn is_two(s: &[u8], at: usize, high: u8, low: u8) -> bool
 }
 
 // The byte count of a telegram of n bytes, as two decimal digits: the high one,
-pub(crate) fn count_high(n: usize) -> u8
+pub fn count_high(n: usize) -> u8
     ensures { λ r. ⌜ r ≡ 48 + (n - 2) / 10 % 10 ⌝ }
 {
     (48 + less(n, 2) / 10 % 10) as u8
 }
 
 // and the low one.
-pub(crate) fn count_low(n: usize) -> u8
+pub fn count_low(n: usize) -> u8
     ensures { λ r. ⌜ r ≡ 48 + (n - 2) % 10 ⌝ }
 {
     (48 + less(n, 2) % 10) as u8

@@ -1,6 +1,5 @@
-// Reading and writing telegrams (01 'The telegram', 'Telegram forms', 'Numbered answers').
+// Reading telegrams (01 'The telegram', 'Telegram forms', 'Numbered answers').
 pub mod answers;
 pub mod field;
 pub mod frame;
 pub mod reading;
-pub mod writing;

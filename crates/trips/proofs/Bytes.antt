@@ -11,9 +11,9 @@ use Rattle.laws.specs.Numerals.{base, nought}
 use Rattle.laws.specs.Truth.{both, either}
 use Rattle.laws.proofs.Truths.{clash, both-left}
 use Rattle.laws.proofs.Passes.{on-cond, on-either, oneOf-passes, from-bounds, from-passes}
-use Rattle.forms.specs.Characters.{inSet}
+use Rattle.characters.specs.Characters.{inSet}
 use Rattle.forms.specs.Forms.{isLine, forms, onLine, dataIn, dataType}
-use Rattle.forms.proofs.Codes.{low}
+use Rattle.characters.proofs.Codes.{low}
 use Rattle.values.specs.Packets.{packetOf, leadBy, decimalBy, leadOf, isDecimal, digit, inForm, permitsBy, permits}
 use Rattle.values.specs.declared.packets.Packet.{Packet}
 use Rattle.values.specs.declared.packets.Packet.the-variants.{Digits, Channel, Position, Direction, Lamp, Stop, Cause, Mode, Watch, Effect, Sign, Country, Request, Approval, Unknown}

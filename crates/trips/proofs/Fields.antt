@@ -11,7 +11,7 @@ use lib.Seq.{take-at, drop-at, length-take-le}
 use borrow.Author.Tests.{eqb-true, eq-eqb}
 use Rattle.laws.specs.Truth.{every, pad}
 use Rattle.laws.proofs.Truths.{both-left, both-right, both-true}
-use Rattle.forms.specs.Characters.{inSet}
+use Rattle.characters.specs.Characters.{inSet}
 use Rattle.forms.specs.Forms.{Slot, isLine, widthIn}
 use Rattle.values.specs.Values.{textOf, permitted, permitsValue, permitsValues}
 use Rattle.telegram.specs.Field.{dataOf, behind, after, valueText, outside, wrongLetter, badValue, valuesIn}

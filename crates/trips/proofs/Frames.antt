@@ -14,7 +14,7 @@ use Rattle.laws.specs.Truth.{oneOf}
 use Rattle.laws.specs.Numerals.{numeralOn}
 use Rattle.laws.proofs.Truths.{both-left, both-right, both-true}
 use Rattle.laws.proofs.Passes.{oneOf-passes}
-use Rattle.forms.specs.Checksum.{checksumOf, checkText}
+use Rattle.characters.specs.Checksum.{checksumOf, checkText}
 use Rattle.telegram.specs.Frame.{lf, cr, countText, bodyOf, frameOf, tailText, summedOf, fieldOf, isTwo, frameChecks}
 use Rattle.trips.proofs.Faults.{Faultless, needs-held}
 

@@ -13,7 +13,7 @@ use Rattle.values.specs.Values.{permitsRecord}
 use Rattle.telegram.specs.Frame.{fieldOf}
 use Rattle.telegram.specs.Field.{valuesIn}
 use Rattle.telegram.specs.Reading.{recordIn}
-use Rattle.telegram.specs.Writing.{telegramOf}
+use Rattle.writing.specs.Writing.{telegramOf}
 use Rattle.trips.proofs.Rows.{Row, row}
 use Rattle.trips.proofs.Fields.{values-permitted, values-data}
 use Rattle.trips.proofs.Records.{values-again}

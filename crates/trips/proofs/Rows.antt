@@ -10,7 +10,7 @@ use borrow.Author.Tests.{eqb-true, leb-true}
 use Rattle.laws.specs.Text.{codes}
 use Rattle.laws.specs.Truth.{oneOf, every, All}
 use Rattle.laws.proofs.Passes.{every-all}
-use Rattle.forms.specs.Characters.{inSet}
+use Rattle.characters.specs.Characters.{inSet}
 use Rattle.forms.specs.Forms.{Slot, forms, formOf, slotsIn, countOf, slotsOf, widthIn, widthOf}
 use Rattle.forms.specs.Records.{typeOf, fieldsOf, recordOf}
 use Rattle.forms.specs.declared.table.Form.{Form}

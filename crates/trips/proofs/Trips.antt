@@ -13,7 +13,7 @@ use Rattle.values.proofs.Recorded.{length-row}
 use Rattle.forms.specs.declared.records.Record.{Record}
 use Rattle.telegram.specs.Answers.{accepts, wrote}
 use Rattle.telegram.specs.Reading.{readingOf}
-use Rattle.telegram.specs.Writing.{telegramOf, writingOf}
+use Rattle.writing.specs.Writing.{telegramOf, writingOf}
 use Rattle.trips.proofs.Rows.{row}
 use Rattle.trips.proofs.Records.{permitted-found, permitted-line}
 use Rattle.trips.proofs.Checks.{accepted, accepted-only}

@@ -13,7 +13,7 @@ use Rattle.laws.specs.Numerals.{numeral, leftOf, numberOn}
 use Rattle.laws.proofs.Truths.{both-left, both-right, both-true}
 use Rattle.laws.proofs.Passes.{both-off}
 use Rattle.laws.proofs.Digits.{AllDigits, number-numeral, numeral-number, nothing-left, numeral-length}
-use Rattle.forms.specs.Characters.{inSet}
+use Rattle.characters.specs.Characters.{inSet}
 use Rattle.forms.specs.Forms.{isLine}
 use Rattle.values.specs.Packets.{leadOf, isDecimal, permits}
 use Rattle.values.specs.Values.{led, textOf, valueOf, bodyOf, permittedFrom, permitted, permitsValue}

@@ -12,7 +12,7 @@ use Rattle.values.specs.Values.{permitsRecord}
 use Rattle.forms.specs.declared.records.Record.{Record}
 use Rattle.telegram.specs.Field.{dataOf, outside, valuesIn}
 use Rattle.telegram.specs.Reading.{recordIn}
-use Rattle.telegram.specs.Writing.{telegramOf}
+use Rattle.writing.specs.Writing.{telegramOf}
 use Rattle.telegram.specs.declared.answers.Spot.the-variants.{Nowhere}
 use Rattle.trips.proofs.Rows.{Row, row}
 use Rattle.trips.proofs.Fields.{Clear, set-inside, data-length, data-letters, data-set, data-permitted, data-values}

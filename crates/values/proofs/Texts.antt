@@ -13,7 +13,7 @@ use Rattle.laws.specs.Numerals.{numeral}
 use Rattle.values.specs.Packets.{leadOf, isDecimal, permits}
 use Rattle.values.specs.Values.{textOf, packetText, permittedFrom, permitted, permitsValue, permitsValues}
 use Rattle.forms.specs.Forms.{slotsIn}
-use Rattle.forms.proofs.Parts.{part-first}
+use Rattle.characters.proofs.Parts.{part-first}
 use Rattle.forms.proofs.Slots.{slots-step}
 
 -- the first byte is x, and all behind it comes back as f says of its length

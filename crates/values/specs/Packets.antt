@@ -5,7 +5,7 @@ use mathlib.Core.Bool.{Bool, true, false, cond}
 use lib.Dec.{eqb}
 use Rattle.laws.specs.Truth.{both, either, from, oneOf}
 use Rattle.laws.specs.Text.{codes}
-use Rattle.forms.specs.Characters.{inSet}
+use Rattle.characters.specs.Characters.{inSet}
 use Rattle.forms.specs.Forms.{dataType}
 use Rattle.values.specs.declared.packets.Packet.{Packet}
 use Rattle.values.specs.declared.packets.Packet.the-variants.{Digits, Channel, Position, Direction, Lamp, Stop, Cause, Mode, Watch, Effect, Sign, Country, Request, Approval, Unknown}

@@ -1,7 +1,7 @@
 // What each packet type permits (01 'Telegram forms', 'Values'): a match over the packet letter, and one over the value byte.
 ghost use mathlib.Core.Path.{_≡_};
 ghost use Rattle.values.specs.Packets.{packetOf, leadOf, isDecimal, permits, digit, inChannel, inPosition, inDirection, inLamp, inStop, inCause, inForm, inMode, inWatch, inEffect, inSign, inCountry, inRequest, inApproval};
-use forms::characters::in_set;
+use characters::characters::in_set;
 use forms::table::data_type;
 
 // The packet types that have a rule of their own.

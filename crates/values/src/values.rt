@@ -11,7 +11,7 @@ use crate::packets::permits_byte;
 use forms::records::Record;
 use forms::records::type_of;
 use forms::records::values_of;
-use forms::slices::byte_at;
+use characters::slices::byte_at;
 use forms::table::Form;
 use forms::table::count_of;
 use forms::table::form_of;

@@ -12,7 +12,7 @@ use borrow.Author.Tests.{eqb-true, eqb-false}
 use Rattle.forms.specs.declared.records.Record.the-variants.{Rejected}
 use Rattle.telegram.specs.Answers.{accepts, refuses}
 use Rattle.telegram.specs.Reading.{readingOf}
-use Rattle.telegram.specs.Writing.{telegramOf}
+use Rattle.writing.specs.Writing.{telegramOf}
 use Rattle.trips.proofs.Trips.{written-reads}
 use Rattle.desk.specs.Answers.{silent, faulted}
 use Rattle.desk.specs.Panel.{losesLine}

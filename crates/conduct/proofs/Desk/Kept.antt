@@ -11,7 +11,7 @@ use Rattle.laws.proofs.Passes.{on-test}
 use Rattle.forms.specs.Forms.{isLine}
 use Rattle.forms.specs.declared.records.Record.{Record}
 use Rattle.values.specs.Values.{permitsRecord}
-use Rattle.telegram.specs.Writing.{telegramOf}
+use Rattle.writing.specs.Writing.{telegramOf}
 use Rattle.trips.proofs.Trips.{telegram-length, length-bounds}
 use Rattle.desk.specs.Answers.{done, lost, refuses, turnsDown, silent, faulted, repeated}
 use Rattle.desk.specs.Answers as h

@@ -14,7 +14,7 @@ use Rattle.forms.specs.declared.records.Record.{Record}
 use Rattle.values.specs.Values.{permitsRecord}
 use Rattle.telegram.specs.Answers as w
 use Rattle.telegram.specs.Reading.{readingOf}
-use Rattle.telegram.specs.Writing.{telegramOf}
+use Rattle.writing.specs.Writing.{telegramOf}
 use Rattle.trips.proofs.Trips.{written-reads}
 use Rattle.desk.specs.Answers.{done, lost, refuses, Origin, requested, oldest, keyed, handed, contents, notMaster, nothingSet, turnsDown, silent, faulted, repeated, handled}
 use Rattle.desk.specs.State.{blank, startOf}

@@ -16,7 +16,7 @@ use Rattle.forms.specs.declared.records.Record.{Record}
 use Rattle.forms.specs.declared.records.Record.the-variants.{Approved}
 use Rattle.telegram.specs.Answers.{Answer, accepts, refuses}
 use Rattle.telegram.specs.Reading.{readingOf}
-use Rattle.telegram.specs.Writing.{telegramOf}
+use Rattle.writing.specs.Writing.{telegramOf}
 use Rattle.desk.specs.Answers.{Origin, oldest, keyed, handled}
 use Rattle.desk.specs.State.{blank}
 use Rattle.desk.specs.Panel.{losesLine, notedOf}

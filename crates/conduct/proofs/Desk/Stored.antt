@@ -16,7 +16,7 @@ use Rattle.forms.specs.Forms.{isLine, forms, onLine, lookIn, formOf, dataType, 
 use Rattle.forms.specs.Records.{typeOf}
 use Rattle.forms.specs.declared.records.Record.{Record}
 use Rattle.values.specs.Values.{permitsRecord}
-use Rattle.telegram.specs.Writing.{telegramOf}
+use Rattle.writing.specs.Writing.{telegramOf}
 use Rattle.trips.proofs.Trips.{telegram-length, length-bounds}
 use Rattle.desk.specs.Answers.{Told, Origin}
 use Rattle.desk.specs.Answers as h

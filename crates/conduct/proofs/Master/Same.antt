@@ -9,7 +9,7 @@ use Rattle.laws.proofs.Truths.{clash}
 use Rattle.forms.specs.Forms.{isLine}
 use Rattle.forms.specs.declared.records.Record.{Record}
 use Rattle.values.specs.Values.{permitsRecord, lengthOf}
-use Rattle.telegram.specs.Writing.{telegramOf}
+use Rattle.writing.specs.Writing.{telegramOf}
 use Rattle.trips.proofs.Trips.{telegram-length}
 use Rattle.master.specs.declared.state.Master.{Master}
 use Rattle.master.specs.declared.answers.Sending.{Sending}

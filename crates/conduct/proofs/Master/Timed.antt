@@ -6,8 +6,8 @@ use Prim.Native.Char.{code}
 use lib.ListN.{replicate}
 use Rattle.laws.specs.Text.{codes}
 use Rattle.laws.specs.Numerals.{numeralOn, numberOn, leftOf}
-use Rattle.forms.specs.Characters.{inSet}
-use Rattle.forms.specs.Checksum.{total, checksumOf, checkText}
+use Rattle.characters.specs.Characters.{inSet}
+use Rattle.characters.specs.Checksum.{total, checksumOf, checkText}
 use Rattle.forms.specs.Forms.{forms, onLine, lookIn, formOf, dataIn, dataType, slotsIn, countOf, slotsOf, widthIn, widthOf}
 use Rattle.forms.specs.Records.{recordOf}
 use Rattle.forms.specs.declared.records.Record.the-variants.{Approved, Train}

@@ -1,7 +1,7 @@
 -- `telegram::frame::end_check` meets its contract. Assumes nothing.
 use Rattle.telegram.proofs.Framing.{sum-two, no-end, bad-sum, good-number, bad-number}
 use Rattle.telegram.specs.Frame.{isTwo, summedOf}
-use Rattle.forms.specs.Checksum.{checkText, checksumOf}
+use Rattle.characters.specs.Checksum.{checkText, checksumOf}
 use lib.ListN.{length}
 use Prim.Native.Nat.{ℕ, _-_}
 use mathlib.Core.List.{List}

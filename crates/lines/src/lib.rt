@@ -1,0 +1,3 @@
+// The line of a telegram in a listing (01, the end of 'Bench cases').
+pub mod lines;
+pub mod numbers;

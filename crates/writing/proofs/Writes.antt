@@ -1,0 +1,71 @@
+-- The refusals of writing, one after the other, and what is written. Assumes nothing.
+use mathlib.Core.Path.{_≡_, refl, ap, _∙_}
+use mathlib.Core.Bool.{Bool, true, false, cond}
+use mathlib.Core.List.{List, _++_}
+use Prim.Native.Nat.{ℕ, _+_, _≤_, _<_}
+use native.Mathlib.Omega.{arith}
+use lib.Dec.{ltb, leb}
+use lib.ListN.{length, drop}
+use borrow.Author.Tests.{lt-ltb, le-ltb, le-leb, lt-leb}
+use Rattle.laws.specs.Truth.{both}
+use Rattle.forms.specs.Forms.{formOf, slotsOf, widthOf, isLine}
+use Rattle.forms.specs.Records.{typeOf, valuesOf}
+use Rattle.values.specs.Values.{permitsRecord, lengthOf}
+use Rattle.forms.specs.declared.records.Record.{Record}
+use Rattle.forms.specs.declared.table.Looked.{Looked}
+use Rattle.telegram.specs.Answers.{wrote, refusesTo}
+use Rattle.telegram.specs.Frame.{frameOf}
+use Rattle.telegram.specs.Field.{dataOf}
+use Rattle.writing.specs.Writing.{Write, telegramOf, writingOf}
+
+small : {n : ℕ} → n ≤ 1 → n < 2
+small h = omega arith
+
+-- the outcome for a row that was looked up
+unfoldable result : ℕ → ℕ → Looked → List ℕ → Bool → Bool → ℕ → List ℕ → Write
+result line kind l vs lined permits number out =
+    cond lined
+    (cond (l .found)
+    (cond (both permits (ltb number 2))
+    (cond (leb (cond (l .found) (8 + widthOf (l .form)) 0) (length out))
+    (wrote (cond (l .found) (8 + widthOf (l .form)) 0), frameOf kind number (dataOf (slotsOf (l .form)) vs) ++ drop (cond (l .found) (8 + widthOf (l .form)) 0) out)
+    (refusesTo 14 0, out))
+    (refusesTo 13 0, out))
+    (refusesTo 12 0, out))
+    (refusesTo 15 0, out)
+
+whole : (line : ℕ) (rec : Record) (number : ℕ) (out : List ℕ)
+    → result line (typeOf rec) (formOf line (typeOf rec)) (valuesOf rec) (isLine line) (permitsRecord line rec) number out ≡ writingOf line rec number out
+unfolding result writingOf lengthOf telegramOf
+whole line rec number out = refl
+
+pub no-line : (line : ℕ) (rec : Record) (number : ℕ) (out : List ℕ) → isLine line ≡ false → (refusesTo 15 0, out) ≡ writingOf line rec number out
+unfolding writingOf
+no-line line rec number out h = rw h
+
+module _ (line : ℕ) (rec : Record) (number : ℕ) (out : List ℕ) (kind : ℕ) (looked : Looked)
+    (a : isLine line ≡ true) (e : kind ≡ typeOf rec) (f : looked ≡ formOf line kind) where
+  same : (vs : List ℕ) (p : Bool) → vs ≡ valuesOf rec → permitsRecord line rec ≡ p → result line kind looked vs true p number out ≡ writingOf line rec number out
+  same vs p g h = let w = whole line rec number out in let r : looked ≡ formOf line (typeOf rec) = f ∙ ap (λ (x : ℕ). formOf line x) e in cc
+
+  pub not-sent : looked .found ≡ false → (refusesTo 12 0, out) ≡ writingOf line rec number out
+  unfolding result
+  not-sent h = rw (← (same (valuesOf rec) (permitsRecord line rec) refl refl), h)
+
+  pub not-permitted : looked .found ≡ true → permitsRecord line rec ≡ false → (refusesTo 13 0, out) ≡ writingOf line rec number out
+  unfolding result
+  not-permitted h p = rw (← (same (valuesOf rec) false refl p), h)
+
+  module _ (h : looked .found ≡ true) (p : permitsRecord line rec ≡ true) where
+    pub no-number : 1 < number → (refusesTo 13 0, out) ≡ writingOf line rec number out
+    unfolding result
+    no-number g = rw (← (same (valuesOf rec) true refl p), h, le-ltb number 2 g)
+
+    pub no-room : number ≤ 1 → length out < 8 + widthOf (looked .form) → (refusesTo 14 0, out) ≡ writingOf line rec number out
+    unfolding result
+    no-room g r = rw (← (same (valuesOf rec) true refl p), h, lt-ltb number 2 (small g), lt-leb _ _ r)
+
+    pub written : number ≤ 1 → 8 + widthOf (looked .form) ≤ length out → (vs : List ℕ) → vs ≡ valuesOf rec
+        → (wrote (8 + widthOf (looked .form)), frameOf kind number (dataOf (slotsOf (looked .form)) vs) ++ drop (8 + widthOf (looked .form)) out) ≡ writingOf line rec number out
+    unfolding result
+    written g r vs q = rw (← (same vs true q p), h, lt-ltb number 2 (small g), le-leb _ _ r)

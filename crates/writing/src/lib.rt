@@ -1,0 +1,2 @@
+// Writing telegrams (01 'The telegram', 'Telegram forms', 'Numbered answers').
+pub mod writing;
