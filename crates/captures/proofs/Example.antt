@@ -12,12 +12,12 @@ use Rattle.characters.specs.Characters.{inSet}
 use Rattle.characters.specs.Checksum.{total, checksumOf, checkText}
 use Rattle.forms.specs.Forms.{forms, onLine, lookIn, formOf, dataIn, dataType, slotsIn, countOf, slotsOf, widthIn, widthOf}
 use Rattle.forms.specs.Records.{recordOf}
-use Rattle.values.specs.Packets.{packetOf, leadOf, isDecimal, permits}
+use Rattle.packets.specs.Packets.{packetOf, leadOf, isDecimal, permits}
 use Rattle.values.specs.Values.{valueOf, permittedFrom, permitted}
 use Rattle.telegram.specs.Frame.{lf, cr, countText, summedOf, fieldOf, frameChecks}
 use Rattle.telegram.specs.Field.{outside, wrongLetter, badValue, valuesIn, misshapen, fieldChecks}
 use Rattle.telegram.specs.Reading.{recordIn, checks, readingOf}
-use Rattle.cutting.specs.Turns.{turnOf}
+use Rattle.turns.specs.Turns.{turnOf}
 use Rattle.cutting.specs.Search.{cutFrom, spanOf}
 use Rattle.lines.specs.Numbers.{countOn, digitCount, decimalText}
 use Rattle.lines.specs.Lines.{lineText}

@@ -5,13 +5,13 @@ use Prim.Native.Nat.{ℕ, zero, suc, _+_, _-_, _≤_}
 use native.Mathlib.Omega.{arith}
 use lib.ListN.{length, drop, length-drop}
 use lib.Seq.{drop-drop}
-use Rattle.cutting.specs.declared.turns.Turn.{Turn}
-use Rattle.cutting.specs.declared.turns.Turn.the-variants.{Joins, Ends, Drops}
+use Rattle.turns.specs.declared.turns.Turn.{Turn}
+use Rattle.turns.specs.declared.turns.Turn.the-variants.{Joins, Ends, Drops}
 use Rattle.cutting.specs.declared.search.Span.{Span}
 use Rattle.cutting.specs.declared.search.Span.the-variants.{Found, Nothing}
-use Rattle.cutting.specs.Turns.{turnOf}
+use Rattle.turns.specs.Turns.{turnOf}
 use Rattle.cutting.specs.Search.{onTurn, cutFrom, spanOf}
-use Rattle.cutting.proofs.Cases.{joins-at, ends-at}
+use Rattle.turns.proofs.Cases.{joins-at, ends-at}
 use Rattle.captures.specs.Pieces.{spanning, spansOn, spansOf, wrapped, lineAt, linesIn, linesOf}
 use Rattle.captures.proofs.Spans.{enough}
 

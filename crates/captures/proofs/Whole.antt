@@ -5,10 +5,11 @@ use Prim.Native.Nat.{ℕ, zero, suc, _+_, _-_, _≤_, _<_}
 use native.Mathlib.Omega.{arith}
 use lib.ListN.{length, drop, getD, length-append, length-drop, List·getD-append}
 use lib.Seq.{take-append-le, drop-append-le}
+use Rattle.laws.proofs.Passes.{order}
 use Rattle.cutting.specs.declared.search.Span.{Span}
 use Rattle.cutting.specs.declared.search.Span.the-variants.{Found, Nothing}
 use Rattle.cutting.specs.Search.{spanOf}
-use Rattle.cutting.proofs.Openings.{Telegram, order}
+use Rattle.cutting.proofs.Openings.{Telegram}
 use Rattle.cutting.proofs.First.{First, span-first, search-answers}
 use Rattle.captures.specs.Pieces.{spanning, spansOf, wrapped, lineAt, linesIn, linesOf, keptFrom}
 use Rattle.captures.proofs.Spans.{found-within, none-behind, spans-step}

@@ -2,12 +2,12 @@
 ghost use mathlib.Core.Path.{_≡_};
 ghost use lib.ListN.{length};
 ghost use Rattle.captures.specs.Pieces.{stepOf, listPart, keptFrom, tailOf, tailPut, lineDigit, badLine};
-use lines::lines::put_line;
+use characters::slices::less;
+use characters::slices::part;
 use cutting::search::Span;
 use cutting::search::part_of;
 use cutting::search::span_of;
-use characters::slices::less;
-use characters::slices::part;
+use lines::lines::put_line;
 use telegram::answers::Writing;
 use telegram::reading::read;
 

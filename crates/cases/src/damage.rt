@@ -1,9 +1,9 @@
 // Case h with every byte replaced by every value, and inputs of many lengths: what the rules give is written here by hand.
 use crate::show;
-use forms::refusals::number_of;
-use forms::refusals::place_of;
 use characters::slices::part;
 use characters::slices::wide;
+use forms::refusals::number_of;
+use forms::refusals::place_of;
 use telegram::answers::Reading;
 use telegram::reading::read;
 

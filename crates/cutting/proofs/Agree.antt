@@ -6,14 +6,14 @@ use native.Mathlib.Omega.{arith}
 use native.Mathlib.Numerals.{add-one}
 use lib.ListN.{length, take, drop, getD, length-append, length-drop, drop-of-length-le}
 use lib.Seq.{take-length, take-suc, getD-drop, drop-cons}
-use Rattle.cutting.specs.declared.turns.Turn.{Turn}
+use Rattle.laws.proofs.Passes.{order}
+use Rattle.turns.specs.declared.turns.Turn.{Turn}
 use Rattle.cutting.specs.declared.gather.Heard.the-variants.{Byte}
-use Rattle.cutting.specs.Turns.{turnOf}
+use Rattle.turns.specs.Turns.{turnOf}
 use Rattle.cutting.specs.Gather.{atStart}
 use Rattle.cutting.specs.Search.{cutFrom, spanOf}
-use Rattle.cutting.proofs.Cases.{Case, begins, skips, ends, drops, joins, turn-case}
+use Rattle.turns.proofs.Cases.{Case, begins, skips, ends, drops, joins, turn-case}
 use Rattle.cutting.proofs.Steps.{none-left, on-ends, on-joins, on-drops}
-use Rattle.cutting.proofs.Openings.{order}
 use Rattle.cutting.proofs.Streams.{fed, finding, searched}
 use Rattle.cutting.proofs.Ranges.{start-range}
 use Rattle.cutting.proofs.Held.{with, turning, gathered, by-held}

@@ -6,15 +6,16 @@ use Prim.Native.Nat.{ℕ, zero, suc, _+_, _-_, _≤_, _<_}
 use native.Mathlib.Omega.{arith}
 use lib.ListN.{length, drop, getD, length-drop}
 use lib.Seq.{length-take-le}
+use Rattle.laws.proofs.Passes.{order}
 use Rattle.telegram.specs.Frame.{lf, cr}
-use Rattle.cutting.specs.declared.turns.Turn.{Turn}
+use Rattle.turns.specs.declared.turns.Turn.{Turn}
 use Rattle.cutting.specs.declared.search.Span.{Span}
 use Rattle.cutting.specs.declared.search.Span.the-variants.{Found, Nothing}
-use Rattle.cutting.specs.Turns.{turnOf}
+use Rattle.turns.specs.Turns.{turnOf}
 use Rattle.cutting.specs.Search.{cutFrom, spanOf, partOf}
-use Rattle.cutting.proofs.Cases.{Case, begins, skips, ends, drops, joins, turn-case}
+use Rattle.turns.proofs.Cases.{Case, begins, skips, ends, drops, joins, turn-case}
 use Rattle.cutting.proofs.Steps.{none-left, on-ends, on-joins, on-drops}
-use Rattle.cutting.proofs.Openings.{Plain, Telegram, Opening, order, apart, opening-of, telegram-of, one-opening, begun-at, longer, came}
+use Rattle.cutting.proofs.Openings.{Plain, Telegram, Opening, apart, opening-of, telegram-of, one-opening, begun-at, longer, came}
 
 -- the search hands back the telegram that ends first of those that begin at or behind its place, or says that none is left
 abbrev pub First : List ℕ → ℕ → Span → Type 0

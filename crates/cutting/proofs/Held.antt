@@ -6,14 +6,14 @@ use native.Mathlib.Omega.{arith}
 use native.Mathlib.Numerals.{add-one}
 use lib.ListN.{length, take, set}
 use lib.Seq.{length-take-le, take-take, take-suc-set}
-use Rattle.cutting.specs.declared.turns.Turn.{Turn}
-use Rattle.cutting.specs.declared.turns.Turn.the-variants.{Joins, Ends, Drops}
+use Rattle.turns.specs.declared.turns.Turn.{Turn}
+use Rattle.turns.specs.declared.turns.Turn.the-variants.{Joins, Ends, Drops}
 use Rattle.cutting.specs.declared.gather.Heard.{Heard}
 use Rattle.cutting.specs.declared.gather.Heard.the-variants.{Byte, Hit}
 use Rattle.cutting.specs.declared.gather.Gatherer.{Gatherer}
-use Rattle.cutting.specs.Turns.{turnOf}
+use Rattle.turns.specs.Turns.{turnOf}
 use Rattle.cutting.specs.Gather.{holding, shut, turned}
-use Rattle.cutting.proofs.Cases.{joins-at, ends-at}
+use Rattle.turns.proofs.Cases.{joins-at, ends-at}
 use Rattle.cutting.proofs.Streams.{InRange, handing, handed}
 use Rattle.cutting.proofs.Ranges.{hears, turn-range}
 

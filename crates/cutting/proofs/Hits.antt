@@ -6,14 +6,14 @@ use native.Mathlib.Omega.{arith}
 use lib.ListN.{length, length-append}
 use lib.Seq.{take-length}
 use Rattle.telegram.specs.Frame.{lf, cr}
-use Rattle.cutting.specs.declared.turns.Turn.{Turn}
-use Rattle.cutting.specs.declared.turns.Turn.the-variants.{Joins, Ends, Drops}
+use Rattle.turns.specs.declared.turns.Turn.{Turn}
+use Rattle.turns.specs.declared.turns.Turn.the-variants.{Joins, Ends, Drops}
 use Rattle.cutting.specs.declared.gather.Heard.{Heard}
 use Rattle.cutting.specs.declared.gather.Heard.the-variants.{Byte, Hit}
 use Rattle.cutting.specs.declared.gather.Gatherer.{Gatherer}
-use Rattle.cutting.specs.Turns.{turnOf}
+use Rattle.turns.specs.Turns.{turnOf}
 use Rattle.cutting.specs.Gather.{none, atStart, shut, gatherOf}
-use Rattle.cutting.proofs.Cases.{Case, begins, skips, ends, drops, joins, turn-case}
+use Rattle.turns.proofs.Cases.{Case, begins, skips, ends, drops, joins, turn-case}
 use Rattle.cutting.proofs.Openings.{Plain, apart}
 use Rattle.cutting.proofs.Streams.{InRange, handed}
 use Rattle.cutting.proofs.Ranges.{hears, start-range}

@@ -1,13 +1,11 @@
 -- Telegrams in bytes, told without any machine (01 'Cutting the stream'), and the bytes that begin one. Assumes nothing.
-use mathlib.Core.Path.{_≡_, refl}
+use mathlib.Core.Path.{_≡_}
 use mathlib.Core.Logic.{_⊎_, inl, inr}
-use mathlib.Core.Bool.{Bool, true, false}
 use mathlib.Core.List.{List}
 use Prim.Native.Nat.{ℕ, _+_, _-_, _≤_, _<_}
 use native.Mathlib.Omega.{arith}
-use lib.Dec.{ltb}
 use lib.ListN.{length, getD}
-use borrow.Author.Tests.{ltb-true, ltb-false}
+use Rattle.laws.proofs.Passes.{order}
 use Rattle.telegram.specs.Frame.{lf, cr}
 
 -- a byte that is neither LF nor CR
@@ -29,14 +27,6 @@ pub record Opening (s : List ℕ) (o i : ℕ) : Type 0 where
   pub before : o < i
   pub short : i - o ≤ 65
   pub between : (k : ℕ) → o < k → k < i → Plain (getD s k 0)
-
--- of two numbers one is less, or not
-pub order : {A : Type 0} (a b : ℕ) → (a < b → A) → (b ≤ a → A) → A
-order {A} a b less more = pick (ltb a b) (ltb-true a b) (ltb-false a b)
-  where
-    pick : (t : Bool) → (t ≡ true → a < b) → (t ≡ false → b ≤ a) → A
-    pick true l m = less (l refl)
-    pick false l m = more (m refl)
 
 -- LF is not CR
 pub apart : {A : Type 0} {byte : ℕ} → byte ≡ lf → byte ≡ cr → A

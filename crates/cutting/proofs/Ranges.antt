@@ -6,14 +6,14 @@ use native.Mathlib.Omega.{arith}
 use lib.ListN.{length, take, length-set}
 use lib.Seq.{length-take-le}
 use borrow.Author.Tests.{le-ltb}
-use Rattle.cutting.specs.declared.turns.Turn.{Turn}
-use Rattle.cutting.specs.declared.turns.Turn.the-variants.{Joins, Ends, Drops}
+use Rattle.turns.specs.declared.turns.Turn.{Turn}
+use Rattle.turns.specs.declared.turns.Turn.the-variants.{Joins, Ends, Drops}
 use Rattle.cutting.specs.declared.gather.Heard.{Heard}
 use Rattle.cutting.specs.declared.gather.Heard.the-variants.{Byte, Hit}
 use Rattle.cutting.specs.declared.gather.Gatherer.{Gatherer}
-use Rattle.cutting.specs.Turns.{turnOf}
+use Rattle.turns.specs.Turns.{turnOf}
 use Rattle.cutting.specs.Gather.{none, telegram, refuses, atStart, turned, heardOf, gatherOf}
-use Rattle.cutting.proofs.Cases.{joins-at, ends-at}
+use Rattle.turns.proofs.Cases.{joins-at, ends-at}
 use Rattle.cutting.proofs.Streams.{InRange, after}
 
 -- in its ranges a state hears the item

@@ -6,12 +6,12 @@ use native.Mathlib.Omega.{arith}
 use native.Mathlib.Numerals.{add-one}
 use lib.ListN.{length, drop, getD, drop-of-length-le}
 use lib.Seq.{drop-cons}
-use Rattle.cutting.specs.declared.turns.Turn.the-variants.{Joins, Ends, Drops}
+use Rattle.turns.specs.declared.turns.Turn.the-variants.{Joins, Ends, Drops}
 use Rattle.cutting.specs.declared.search.Span.{Span}
 use Rattle.cutting.specs.declared.search.Span.the-variants.{Found, Nothing}
-use Rattle.cutting.specs.Turns.{turnOf}
+use Rattle.turns.specs.Turns.{turnOf}
 use Rattle.cutting.specs.Search.{onTurn, cutFrom}
-use Rattle.cutting.proofs.Cases.{joins-at}
+use Rattle.turns.proofs.Cases.{joins-at}
 
 -- behind the end none is left
 pub none-left : (s : List ℕ) (len i : ℕ) → length s ≤ i → cutFrom (drop i s) len i ≡ Nothing

@@ -7,11 +7,11 @@ use Rattle.forms.specs.Refusals.{numberOf, placeOf}
 use Rattle.forms.specs.Forms.{isLine}
 use Rattle.telegram.specs.Answers.{Answer, answerOf}
 use Rattle.telegram.specs.Reading.{readingOf}
-use Rattle.cutting.specs.declared.turns.Turn.{Turn}
-use Rattle.cutting.specs.declared.turns.Turn.the-variants.{Joins, Ends, Drops}
+use Rattle.turns.specs.declared.turns.Turn.{Turn}
+use Rattle.turns.specs.declared.turns.Turn.the-variants.{Joins, Ends, Drops}
 use Rattle.cutting.specs.declared.search.Span.{Span}
 use Rattle.cutting.specs.declared.search.Span.the-variants.{Found, Nothing}
-use Rattle.cutting.specs.Turns.{turnOf}
+use Rattle.turns.specs.Turns.{turnOf}
 use Rattle.cutting.specs.declared.search.Cutting as c
 
 -- what the turn of the byte at place i finds, or how the search goes on with so many bytes gathered

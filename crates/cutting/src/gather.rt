@@ -1,11 +1,11 @@
 // Gathering a telegram item by item, in a state by value (01 'Cutting the stream').
 ghost use mathlib.Core.Path.{_≡_};
 ghost use Prim.Native.Nat.{_≤_, _<_};
-ghost use Rattle.cutting.specs.Turns.{turnOf};
+ghost use Rattle.turns.specs.Turns.{turnOf};
 ghost use Rattle.cutting.specs.Gather.{gatheredOf, atStart, holding, shut, turned, gatherOf};
-use crate::turns::Turn;
-use crate::turns::turn_of;
 use forms::refusals::Refusal;
+use turns::turns::Turn;
+use turns::turns::turn_of;
 
 // A heard item is a byte or a hit.
 pub enum Heard {

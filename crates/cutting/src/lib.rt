@@ -1,4 +1,3 @@
 // Cutting telegrams out of a stream (01 'Cutting the stream'): item by item, or by a search over a lent slice.
 pub mod gather;
 pub mod search;
-pub mod turns;

@@ -1,14 +1,14 @@
 // The search for the next telegram over a lent slice (01 'Cutting the stream').
 ghost use mathlib.Core.Path.{_≡_};
 ghost use Rattle.cutting.specs.Search.{spanOf, partOf, startOf, placed, cuttingOf, nextOf};
-use crate::turns::Turn;
-use crate::turns::turn_of;
-use forms::refusals::Refusal;
 use characters::slices::less;
 use characters::slices::part;
+use forms::refusals::Refusal;
 use forms::table::is_line;
 use telegram::answers::Reading;
 use telegram::reading::read;
+use turns::turns::Turn;
+use turns::turns::turn_of;
 
 // Where a telegram lies: its LF at start, its CR before end; or none is left.
 pub enum Span {

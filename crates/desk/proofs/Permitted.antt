@@ -17,7 +17,7 @@ use Rattle.characters.specs.Characters.{inSet}
 use Rattle.forms.specs.Forms.{isLine, forms, onLine, lookIn, formOf, slotsIn, countOf, slotsOf, dataType, dataIn}
 use Rattle.forms.specs.Records.{typeOf}
 use Rattle.forms.specs.declared.records.Record.the-variants.{Approved, Rejected}
-use Rattle.values.specs.Packets.{packetOf, leadOf, isDecimal, permits}
+use Rattle.packets.specs.Packets.{packetOf, leadOf, isDecimal, permits}
 use Rattle.values.specs.Values.{textOf, bodyOf, permittedFrom, permitted, permitsValue, permitsValues, permitsRecord}
 use Rattle.desk.specs.State.{blank, mayReply, slotFits, keyFits, wantedFits}
 use Rattle.desk.specs.Rules.{What, misread, strange, request, poll, other}

@@ -15,6 +15,10 @@ pub on-test : {A : Type 0} (c : Bool) → (c ≡ true → A) → (c ≡ false �
 on-test true f g = f refl
 on-test false f g = g refl
 
+-- of two numbers one is less, or not
+pub order : {A : Type 0} (a b : ℕ) → (a < b → A) → (b ≤ a → A) → A
+order a b less more = on-test (ltb a b) (λ e. less (ltb-true a b e)) (λ e. more (ltb-false a b e))
+
 -- a choice of two tests holds by the one or by the other
 pub on-cond : {A : Type 0} (c a b : Bool) → cond c a b ≡ true → (c ≡ true → a ≡ true → A) → (c ≡ false → b ≡ true → A) → A
 on-cond true a b h f g = f refl h

@@ -14,7 +14,7 @@ use Rattle.characters.specs.Checksum.{total, checksumOf, checkText}
 use Rattle.forms.specs.Forms.{forms, onLine, lookIn, formOf, dataIn, dataType, slotsIn, countOf, slotsOf, widthIn, widthOf}
 use Rattle.forms.specs.Records.{recordOf}
 use Rattle.forms.specs.declared.records.Record.the-variants.{Idling, Position, Stop, Train}
-use Rattle.values.specs.Packets.{packetOf, leadOf, isDecimal, permits}
+use Rattle.packets.specs.Packets.{packetOf, leadOf, isDecimal, permits}
 use Rattle.values.specs.Values.{permitsRecord, textOf, valueOf, bodyOf, permittedFrom, permitted, permitsValue, permitsValues, lengthOf}
 use Rattle.telegram.specs.Frame.{lf, cr, countText, summedOf, fieldOf, frameOf, frameChecks}
 use Rattle.telegram.specs.Frame as f

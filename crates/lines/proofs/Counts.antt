@@ -7,9 +7,9 @@ use Prim.Native.Nat.{ℕ, zero, suc, _+_, _*_, _/_, _%_, _≤_, _<_}
 use native.Mathlib.Omega.{arith}
 use lib.ListN.{length, getD}
 use borrow.Author.Tests.{lt-ltb, le-ltb}
+use Rattle.laws.proofs.Passes.{order}
 use Rattle.laws.specs.Numerals.{leftOf, numberOn, numeralOn}
 use Rattle.laws.proofs.Digits.{numeral-length, number-numeral}
-use Rattle.cutting.proofs.Openings.{order}
 use Rattle.lines.specs.Numbers.{countOn, digitCount, decimalText}
 
 -- as many divisions as a number's value are enough

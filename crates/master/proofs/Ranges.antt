@@ -13,7 +13,7 @@ use Rattle.forms.specs.Forms.{isLine, byMaster, forms, onLine, lookIn, formOf, 
 use Rattle.forms.specs.Records.{typeOf}
 use Rattle.characters.specs.Characters.{inSet}
 use Rattle.forms.specs.declared.records.Record.{Record}
-use Rattle.values.specs.Packets.{packetOf, leadOf, isDecimal, permits}
+use Rattle.packets.specs.Packets.{packetOf, leadOf, isDecimal, permits}
 use Rattle.values.specs.Values.{permitsRecord, textOf, bodyOf, permittedFrom, permitted, permitsValue, permitsValues}
 use Rattle.telegram.specs.Answers.{good, fault}
 use Rattle.link.specs.Counters.{inRange}

@@ -22,8 +22,8 @@ use link::clock::run_out;
 use link::counters::ToSend;
 use telegram::answers::Check;
 use telegram::answers::Writing;
-use writing::writing::write;
 use values::values::permits_record;
+use writing::writing::write;
 
 // The telegram of a permitted record, at the front of an output with room for any, and its length.
 fn put(line: u8, rec: Record, number: u8, out: &mut [u8]) -> usize

@@ -5,7 +5,7 @@ use Prim.Native.Nat.{ℕ, _≤_}
 use Rattle.characters.specs.Characters.{inSet}
 use Rattle.forms.specs.Forms.{isLine}
 use Rattle.characters.proofs.Codes.{high}
-use Rattle.values.specs.Packets.{permits}
+use Rattle.packets.specs.Packets.{permits}
 use Rattle.trips.proofs.Bytes.{permits-set}
 
 -- the set is kept as a table of 128 entries: there is none behind it

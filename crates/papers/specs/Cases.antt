@@ -10,7 +10,7 @@ use Rattle.laws.specs.Numerals.{numeralOn, numberOn}
 use Rattle.characters.specs.Characters.{inSet}
 use Rattle.characters.specs.Checksum.{total, checksumOf, checkText}
 use Rattle.forms.specs.Forms.{forms, onLine, lookIn, formOf, dataIn, dataType, slotsIn, countOf, slotsOf, widthIn, widthOf}
-use Rattle.values.specs.Packets.{packetOf, leadOf, isDecimal, permits}
+use Rattle.packets.specs.Packets.{packetOf, leadOf, isDecimal, permits}
 use Rattle.values.specs.Values.{valueOf, permittedFrom, permitted}
 use Rattle.forms.specs.Records.{recordOf}
 use Rattle.forms.specs.declared.records.Record.the-variants.{Approved, Rejected, Request, Idling, Stop, Train, TrainData}

@@ -13,7 +13,7 @@ use Rattle.laws.proofs.Truths.{clash}
 use Rattle.characters.specs.Characters.{inSet}
 use Rattle.characters.specs.Checksum.{total, checksumOf, checkText}
 use Rattle.forms.specs.Forms.{forms, onLine, isLine, lookIn, formOf, slotsIn, countOf, slotsOf, widthIn, widthOf}
-use Rattle.values.specs.Packets.{packetOf, permits}
+use Rattle.packets.specs.Packets.{packetOf, permits}
 use Rattle.values.specs.Values.{permittedFrom, permitted}
 use Rattle.forms.specs.declared.records.Record.{Record}
 use Rattle.telegram.specs.declared.answers.Spot.{Spot}

@@ -3,6 +3,7 @@ use crate::rows;
 use crate::rows::Call;
 use crate::show;
 use crate::words;
+use characters::slices::part;
 use desk::answers::Heard;
 use desk::answers::Outcome;
 use desk::answers::Source;
@@ -12,7 +13,6 @@ use desk::state::Slot;
 use desk::state::Step;
 use desk::state::Wanted;
 use forms::refusals::Refusal;
-use characters::slices::part;
 use link::counters::LastTaken;
 
 // The state: line, last number taken, queued records.

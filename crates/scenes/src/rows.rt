@@ -1,10 +1,10 @@
 // The words of a row, and what they mean.
 ghost use Prim.Native.Nat.{_<_, _≤_};
-use forms::records::Record;
-use forms::records::record_of;
 use characters::slices::byte_at;
 use characters::slices::less;
 use characters::slices::part;
+use forms::records::Record;
+use forms::records::record_of;
 
 // The place of the first separator from a place on, or the end.
 fn end_from(s: &[u8], separator: u8, from: usize) -> usize {

@@ -1,13 +1,13 @@
 // What calls answer, as text.
 use crate::words;
+use characters::slices::byte_at;
+use characters::slices::part;
 use forms::records::Record;
 use forms::records::type_of;
 use forms::records::values_of;
 use forms::refusals::Refusal;
 use forms::refusals::number_of;
 use forms::refusals::place_of;
-use characters::slices::byte_at;
-use characters::slices::part;
 use libc::STDOUT_FILENO;
 
 pub(crate) fn bytes(text: &[u8]) {

@@ -9,7 +9,7 @@ use Rattle.laws.proofs.Truths.{both-left, both-right, clash}
 use Rattle.laws.proofs.Passes.{on-either, every-all}
 use Rattle.forms.specs.Forms.{forms, slotsIn, countOf, slotsOf, formOf}
 use Rattle.forms.proofs.Found.{found-row}
-use Rattle.values.specs.Packets.{packetOf, isDecimal}
+use Rattle.packets.specs.Packets.{packetOf, isDecimal}
 use Rattle.forms.specs.declared.table.Form.{Form}
 use Rattle.forms.specs.declared.table.Looked.{Looked}
 use Rattle.telegram.specs.Field.{narrow, narrowSlot}

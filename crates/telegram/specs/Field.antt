@@ -6,7 +6,7 @@ use lib.Dec.{eqb, leb}
 use lib.ListN.{length, getD, take, drop}
 use Rattle.laws.specs.Truth.{both, either}
 use Rattle.characters.specs.Characters.{inSet}
-use Rattle.values.specs.Packets.{isDecimal}
+use Rattle.packets.specs.Packets.{isDecimal}
 use Rattle.forms.specs.Forms.{Slot, slotsOf, widthOf, formOf}
 use Rattle.values.specs.Values.{textOf, valueOf, permitted}
 use Rattle.forms.specs.declared.table.Form.{Form}

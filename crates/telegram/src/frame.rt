@@ -8,10 +8,10 @@ ghost use Rattle.telegram.specs.Frame.{isTwo, frameChecks};
 use crate::answers::Check;
 use characters::checksum::checksum;
 use characters::checksum::hex;
-use forms::refusals::Refusal;
 use characters::slices::byte_at;
 use characters::slices::less;
 use characters::slices::part;
+use forms::refusals::Refusal;
 
 // Whether the two characters at a place are these.
 fn is_two(s: &[u8], at: usize, high: u8, low: u8) -> bool

@@ -6,7 +6,7 @@ ghost use lib.ListN.{length};
 ghost use Rattle.laws.specs.Truth.{every};
 ghost use Rattle.laws.specs.Numerals.{base, nought, numberOn};
 ghost use Rattle.forms.specs.Forms.{slotsOf};
-ghost use Rattle.values.specs.Packets.{isDecimal};
+ghost use Rattle.packets.specs.Packets.{isDecimal};
 ghost use Rattle.values.specs.Values.{valueOf};
 ghost use Rattle.telegram.specs.Answers.{answerOf};
 ghost use Rattle.telegram.specs.Field.{valuesIn, narrowSlot};
@@ -18,18 +18,18 @@ use crate::field::bad_value;
 use crate::field::outside_set;
 use crate::field::wrong_form;
 use crate::frame::frame_check;
-use forms::records::record_of;
-use forms::refusals::Refusal;
 use characters::slices::byte_at;
 use characters::slices::less;
 use characters::slices::part;
 use characters::slices::wide;
+use forms::records::record_of;
+use forms::refusals::Refusal;
 use forms::table::Form;
 use forms::table::count_of;
 use forms::table::form_of;
 use forms::table::is_line;
-use values::packets::is_decimal;
-use values::packets::lead_of;
+use packets::packets::is_decimal;
+use packets::packets::lead_of;
 
 // The number that a number's digits and one digit more say.
 fn with_digit(decimal: bool, a: u32, b: u8) -> u32

@@ -14,9 +14,9 @@ use Rattle.laws.proofs.Passes.{on-cond, on-either, oneOf-passes, from-bounds, f
 use Rattle.characters.specs.Characters.{inSet}
 use Rattle.forms.specs.Forms.{isLine, forms, onLine, dataIn, dataType}
 use Rattle.characters.proofs.Codes.{low}
-use Rattle.values.specs.Packets.{packetOf, leadBy, decimalBy, leadOf, isDecimal, digit, inForm, permitsBy, permits}
-use Rattle.values.specs.declared.packets.Packet.{Packet}
-use Rattle.values.specs.declared.packets.Packet.the-variants.{Digits, Channel, Position, Direction, Lamp, Stop, Cause, Mode, Watch, Effect, Sign, Country, Request, Approval, Unknown}
+use Rattle.packets.specs.Packets.{packetOf, leadBy, decimalBy, leadOf, isDecimal, digit, inForm, permitsBy, permits}
+use Rattle.packets.specs.declared.packets.Packet.{Packet}
+use Rattle.packets.specs.declared.packets.Packet.the-variants.{Digits, Channel, Position, Direction, Lamp, Stop, Cause, Mode, Watch, Effect, Sign, Country, Request, Approval, Unknown}
 
 -- a digit is a character of the set
 digit-set : (b : ℕ) → digit b ≡ true → inSet b ≡ true

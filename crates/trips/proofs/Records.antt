@@ -12,7 +12,7 @@ use Rattle.laws.specs.Truth.{All}
 use Rattle.laws.specs.Numerals.{numeralOn, leftOf, numberOn}
 use Rattle.laws.proofs.Truths.{clash, both-left, both-right}
 use Rattle.forms.specs.Forms.{Slot, forms, isLine, formOf, slotsIn, countOf, slotsOf}
-use Rattle.values.specs.Packets.{packetOf, leadOf, isDecimal, permits}
+use Rattle.packets.specs.Packets.{packetOf, leadOf, isDecimal, permits}
 use Rattle.forms.specs.Records.{typeOf, paired, radioValues, fieldsOf, valuesOf, radioOf, recordOf}
 use Rattle.values.specs.Values.{textOf, valueOf, bodyOf, permittedFrom, permitted, permitsValue, permitsValues, permitsRecord}
 use Rattle.forms.specs.declared.records.Radio.{Radio}

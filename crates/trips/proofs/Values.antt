@@ -15,7 +15,7 @@ use Rattle.laws.proofs.Passes.{both-off}
 use Rattle.laws.proofs.Digits.{AllDigits, number-numeral, numeral-number, nothing-left, numeral-length}
 use Rattle.characters.specs.Characters.{inSet}
 use Rattle.forms.specs.Forms.{isLine}
-use Rattle.values.specs.Packets.{leadOf, isDecimal, permits}
+use Rattle.packets.specs.Packets.{leadOf, isDecimal, permits}
 use Rattle.values.specs.Values.{led, textOf, valueOf, bodyOf, permittedFrom, permitted, permitsValue}
 use Rattle.trips.proofs.Bytes.{leads, permits-set, permits-lead, permits-digit}
 

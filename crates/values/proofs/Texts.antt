@@ -10,7 +10,7 @@ use lib.Seq.{drop-length, take-length, drop-cons, drop-drop}
 use borrow.Rule.Slice.PartMut.{putMid, midOf}
 use borrow.Author.Tests.{eq-eqb, ne-eqb}
 use Rattle.laws.specs.Numerals.{numeral}
-use Rattle.values.specs.Packets.{leadOf, isDecimal, permits}
+use Rattle.packets.specs.Packets.{leadOf, isDecimal, permits}
 use Rattle.values.specs.Values.{textOf, packetText, permittedFrom, permitted, permitsValue, permitsValues}
 use Rattle.forms.specs.Forms.{slotsIn}
 use Rattle.characters.proofs.Parts.{part-first}

@@ -7,7 +7,7 @@ use lib.ListN.{length, getD, drop}
 use Rattle.laws.specs.Truth.{both}
 use Rattle.laws.specs.Numerals.{numeral, leftOf, numberOn}
 use Rattle.forms.specs.Forms.{Slot, slotsOf, widthOf, formOf}
-use Rattle.values.specs.Packets.{leadOf, isDecimal, permits}
+use Rattle.packets.specs.Packets.{leadOf, isDecimal, permits}
 use Rattle.forms.specs.Records.{typeOf, valuesOf}
 use Rattle.forms.specs.declared.records.Record.{Record}
 

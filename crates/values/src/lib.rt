@@ -1,3 +1,2 @@
-// Values (01 'Telegram forms', 'Values'): what each packet type permits, and a value's number and characters.
-pub mod packets;
+// A value's number and its characters, and which records are permitted (01 'Telegram forms', 'Values').
 pub mod values;

@@ -5,17 +5,17 @@ ghost use lib.ListN.{length, getD};
 ghost use Rattle.laws.specs.Numerals.{base, nought, numeral, leftOf};
 ghost use Rattle.forms.specs.Forms.{slotsOf};
 ghost use Rattle.values.specs.Values.{textOf, packetText, bodyOf, permitted, permitsValue, permitsValues, permitsRecord, lengthOf};
-use crate::packets::is_decimal;
-use crate::packets::lead_of;
-use crate::packets::permits_byte;
+use characters::slices::byte_at;
 use forms::records::Record;
 use forms::records::type_of;
 use forms::records::values_of;
-use characters::slices::byte_at;
 use forms::table::Form;
 use forms::table::count_of;
 use forms::table::form_of;
 use forms::table::width_of;
+use packets::packets::is_decimal;
+use packets::packets::lead_of;
+use packets::packets::permits_byte;
 
 // What is left of a number when its low digit is taken.
 fn quotient(decimal: bool, n: u32) -> u32

@@ -7,7 +7,7 @@ use lib.ListN.{length, drop}
 use borrow.Author.Needs.{needs}
 use denote.Ref.{now}
 use Rattle.cutting.specs.Search.{cutFrom, spanOf}
-use Rattle.cutting.proofs.Cases.{joins-at, ends-at}
+use Rattle.turns.proofs.Cases.{joins-at, ends-at}
 use Rattle.cutting.proofs.Steps.{none-left, on-ends, joined, dropped}
 use Rattle.cutting.proofs.search.span_of.Statement.{statement}
 use Rattle.cutting.proofs.search.span_of.Tie as tie

@@ -4,7 +4,7 @@ use Prim.Native.Nat.{_+_}
 use native.Mathlib.Omega.{arith}
 use Rattle.cutting.specs.declared.gather.Gatherer.{Gatherer}
 use Rattle.cutting.specs.Gather.{none, telegram, turned}
-use Rattle.cutting.proofs.Cases.{joins-at, ends-at}
+use Rattle.turns.proofs.Cases.{joins-at, ends-at}
 use borrow.Author.Needs.{needs}
 use Rattle.cutting.proofs.gather.Gatherer.hear.Statement.{statement}
 use Rattle.cutting.proofs.gather.Gatherer.hear.Tie as tie

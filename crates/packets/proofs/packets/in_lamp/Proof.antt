@@ -1,0 +1,16 @@
+-- `packets::packets::in_lamp` meets its contract. Assumes nothing.
+use Rattle.laws.proofs.Tests.{tests}
+use Rattle.packets.proofs.packets.in_lamp.Statement.{statement}
+use Rattle.packets.proofs.packets.in_lamp.Tie as tie
+
+returns : tie.Need-returns
+returns c = search tests
+
+returns-2 : tie.Need-returns-2
+returns-2 c = search tests
+
+returns-3 : tie.Need-returns-3
+returns-3 c = search tests
+
+pub in-lamp-spec : {M : Type 1} → statement M
+in-lamp-spec = tie.close (tie.spec returns returns-2 returns-3)

@@ -1,0 +1,20 @@
+-- What one byte does to the telegram that is being gathered (01 'Cutting the stream'). Assumes nothing.
+use Prim.Native.Nat.{ℕ}
+use mathlib.Core.Bool.{Bool, true, false}
+use lib.Dec.{leb, eqb}
+use Rattle.telegram.specs.Frame.{lf, cr}
+use Rattle.turns.specs.declared.turns.Turn.{Turn}
+use Rattle.turns.specs.declared.turns.Turn.the-variants.{Joins, Ends, Drops}
+
+abbrev pub pickTurn : Bool → Turn → Turn → Turn
+pickTurn true a b = a
+pickTurn false a b = b
+
+-- LF begins a telegram, also inside another, which is dropped; bytes outside are skipped; CR ends it; a 66th byte that is neither drops it
+unfoldable pub turnOf : ℕ → ℕ → Turn
+turnOf len byte =
+    pickTurn (eqb byte lf) (Joins 0)
+    (pickTurn (eqb len 0) Drops
+    (pickTurn (eqb byte cr) (Ends len)
+    (pickTurn (leb 65 len) Drops
+    (Joins len))))
