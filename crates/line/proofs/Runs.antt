@@ -92,11 +92,11 @@ polledHistory =
     answered nextPoll (telegram "0851U-B0") 1 ∷ over nextPoll ∷ handled nextPoll (telegram "0851U-B0") ∷ sent nextPoll ∷
     answered poll (telegram "0850U+B3") 2 ∷ over poll ∷ again poll ∷ over poll ∷ handled poll (telegram "0850U+B3") ∷ sent poll ∷ []
 
--- Answered but not handled: the answers are lost three times and the master gives up; the next telegram has number 0 again, is taken for a
--- repeat, and gets the stored answer. Without the exception for the first answered since a giving up the demand is false.
+-- Answered but not handled: the answer is lost, then two more sendings, and the master gives up; the next telegram has number 0 again, is
+-- taken for a repeat, and gets the stored answer. Without the exception for the first answered since a giving up the demand is false.
 abbrev stale : List (Ev (ours 2))
 stale =
-    offer 0 (Idling (code "t")) room ∷ whole 10 room ∷ lost ∷ mtick 2000 room ∷ whole 2010 room ∷ lost ∷ mtick 4000 room ∷ whole 4010 room ∷ lost ∷ mtick 6000 room ∷
+    offer 0 (Idling (code "t")) room ∷ whole 10 room ∷ lost ∷ mtick 2000 room ∷ lost ∷ mtick 4000 room ∷ lost ∷ mtick 6000 room ∷
     offer 6001 (Position 1234) room ∷ whole 6010 room ∷ whole 6020 room ∷ []
 
 abbrev place : Tel (List ℕ)
@@ -110,7 +110,7 @@ staleHistory =
 -- Handled twice: the call that hears the second sending notes the lost line first. The supposition fails; one that allows the note in the
 -- hearing call itself is too weak.
 abbrev twice : List (Ev (ours 2))
-twice = offer 0 (Idling (code "t")) room ∷ whole 10 room ∷ mtick 2000 room ∷ whole 28010 room ∷ []
+twice = offer 0 (Idling (code "t")) room ∷ whole 10 room ∷ lost ∷ mtick 2000 room ∷ whole 28010 room ∷ []
 
 abbrev twiceHistory : History
 twiceHistory =
