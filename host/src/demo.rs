@@ -23,6 +23,23 @@ impl Ends for Bench {
     }
 }
 
+/// How often things are lost or spoiled on the line, of so many, and when it is dead, in
+/// milliseconds.
+pub struct Odds {
+    pub lost: usize,
+    pub spoiled: usize,
+    pub of: usize,
+    pub dead: std::ops::Range<u32>,
+}
+
+/// The line of the demonstration: dead for longer than T1.
+pub const SHOWN: Odds = Odds {
+    lost: 1,
+    spoiled: 1,
+    of: 12,
+    dead: 30_000..64_000,
+};
+
 /// What becomes of a thing on the line.
 enum Fate {
     Whole,
@@ -40,6 +57,7 @@ struct Flight {
 /// A run: the time line so far, what happened, and what is under way.
 struct Run<'a, E> {
     ends: &'a mut E,
+    odds: &'a Odds,
     random: Random,
     line: u8,
     now: u32,
@@ -50,13 +68,17 @@ struct Run<'a, E> {
     sent: usize,
 }
 
-/// The line is dead between these times, in milliseconds: longer than T1.
-const DEAD: std::ops::Range<u32> = 30_000..64_000;
-
 /// Runs both ends on a line for so long from a seed; the time line and the history.
-pub fn run<E: Ends>(ends: &mut E, line: u8, seed: u64, duration: u32) -> (String, Vec<Item>) {
+pub fn run<E: Ends>(
+    ends: &mut E,
+    odds: &Odds,
+    line: u8,
+    seed: u64,
+    duration: u32,
+) -> (String, Vec<Item>) {
     let mut run = Run {
         ends,
+        odds,
         random: Random::seeded(seed),
         line,
         now: 0,
@@ -87,10 +109,10 @@ impl<E: Ends> Run<'_, E> {
     }
 
     fn turn(&mut self) {
-        if self.now == DEAD.start {
+        if self.now == self.odds.dead.start {
             self.say("", "the line is dead", "");
         }
-        if self.now == DEAD.end {
+        if self.now == self.odds.dead.end {
             self.say("", "the line is back", "");
         }
         if let Some(flight) = self.flight.take_if(|flight| flight.at <= self.now) {
@@ -213,12 +235,14 @@ impl<E: Ends> Run<'_, E> {
     }
 
     fn fate(&mut self) -> Fate {
-        match self.random.below(12) {
-            _ if DEAD.contains(&self.now) => Fate::Lost,
-            0 => Fate::Lost,
-            1 => Fate::Spoiled,
-            _ => Fate::Whole,
+        let drawn = self.random.below(self.odds.of);
+        if drawn < self.odds.lost || self.odds.dead.contains(&self.now) {
+            return Fate::Lost;
         }
+        if drawn < self.odds.lost + self.odds.spoiled {
+            return Fate::Spoiled;
+        }
+        Fate::Whole
     }
 
     /// A frame with one character changed, so that checks 1 to 7 refuse it.

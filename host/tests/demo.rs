@@ -1,7 +1,7 @@
 //! Both ends over a simulated line: demand 3 on what happened, and the kept exchange.
 
 use host::demand::{judge, supposed, Item};
-use host::demo::run;
+use host::demo::{run, SHOWN};
 use host::program::Program;
 use host::script::Bench;
 use std::path::{Path, PathBuf};
@@ -20,7 +20,7 @@ fn program() -> Program {
 #[test]
 fn kept_exchange() {
     let kept = std::fs::read_to_string(repository("samples/exchange.txt")).expect("it is read");
-    assert_eq!(run(&mut program(), 1, 33, 90_000).0, kept);
+    assert_eq!(run(&mut program(), &SHOWN, 1, 33, 90_000).0, kept);
 }
 
 /// Runs from many seeds: the two versions of the ends say the same, and demand 3 holds.
@@ -30,8 +30,8 @@ fn many_exchanges() {
     let mut reached = [false; 4];
     for seed in 0..20 {
         for line in 1..=3 {
-            let (text, history) = run(&mut program, line, seed, 90_000);
-            let (second, _) = run(&mut Bench::new(), line, seed, 90_000);
+            let (text, history) = run(&mut program, &SHOWN, line, seed, 90_000);
+            let (second, _) = run(&mut Bench::new(), &SHOWN, line, seed, 90_000);
             assert_eq!(text, second, "line {line}, seed {seed}");
             assert!(
                 supposed(&history),
@@ -71,7 +71,7 @@ fn calm_exchanges() {
     let mut program = program();
     let mut calm = 0;
     for seed in 100..130 {
-        let (_, history) = run(&mut program, 2, seed, 20_000);
+        let (_, history) = run(&mut program, &SHOWN, 2, seed, 20_000);
         calm += usize::from(!history.iter().any(|item| matches!(item, Item::GivenUp(..))));
         assert!(
             judge(&history).iter().all(|(_, holds)| *holds),

@@ -1,7 +1,7 @@
 //! Shows an exchange: `demo PROGRAM LINE SEED SECONDS` runs both ends, as the program `scenes`
 //! has them, over a simulated line and prints the time line.
 
-use host::demo::run;
+use host::demo::{run, SHOWN};
 use host::program::Program;
 
 fn main() {
@@ -18,6 +18,7 @@ fn main() {
         "{}",
         run(
             &mut ends,
+            &SHOWN,
             line as u8,
             u64::from(seed),
             seconds.saturating_mul(1_000)
