@@ -11,7 +11,7 @@ use Rattle.laws.specs.Numerals.{numeralOn, numberOn}
 use Rattle.characters.specs.Characters.{inSet}
 use Rattle.characters.specs.Checksum.{total, checksumOf, checkText}
 use Rattle.forms.specs.Forms.{forms, onLine, lookIn, formOf, dataIn, dataType, slotsIn, countOf, slotsOf, widthIn, widthOf}
-use Rattle.forms.specs.Records.{recordOf}
+use Rattle.records.specs.Records.{recordOf}
 use Rattle.packets.specs.Packets.{packetOf, leadOf, isDecimal, permits}
 use Rattle.values.specs.Values.{valueOf, permittedFrom, permitted}
 use Rattle.telegram.specs.Frame.{lf, cr, countText, summedOf, fieldOf, frameChecks}

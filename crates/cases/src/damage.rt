@@ -2,8 +2,8 @@
 use crate::show;
 use characters::slices::part;
 use characters::slices::wide;
-use forms::refusals::number_of;
-use forms::refusals::place_of;
+use records::refusals::number_of;
+use records::refusals::place_of;
 use telegram::answers::Reading;
 use telegram::reading::read;
 

@@ -1,13 +1,13 @@
 // What was read or written, as text.
-use forms::records::Record;
-use forms::records::type_of;
-use forms::records::values_of;
-use forms::refusals::Refusal;
-use forms::refusals::number_of;
-use forms::refusals::place_of;
 use forms::table::count_of;
 use forms::table::form_of;
 use libc::STDOUT_FILENO;
+use records::records::Record;
+use records::records::type_of;
+use records::records::values_of;
+use records::refusals::Refusal;
+use records::refusals::number_of;
+use records::refusals::place_of;
 use telegram::answers::Reading;
 
 pub(crate) fn say(text: &[u8]) {

@@ -3,7 +3,7 @@ use Prim.Native.Nat.{ℕ, _+_}
 use mathlib.Core.Bool.{cond}
 use lib.Dec.{ltb}
 use lib.ListN.{set, replicate}
-use Rattle.forms.specs.Refusals.{numberOf, placeOf}
+use Rattle.records.specs.Refusals.{numberOf, placeOf}
 use Rattle.turns.specs.declared.turns.Turn.{Turn}
 use Rattle.turns.specs.declared.turns.Turn.the-variants.{Joins, Ends, Drops}
 use Rattle.cutting.specs.declared.gather.Heard.{Heard}

@@ -3,7 +3,7 @@ use Prim.Native.Nat.{ℕ, _+_, _-_}
 use mathlib.Core.Bool.{cond}
 use mathlib.Core.List.{List, [], _∷_}
 use lib.ListN.{length, take, drop}
-use Rattle.forms.specs.Refusals.{numberOf, placeOf}
+use Rattle.records.specs.Refusals.{numberOf, placeOf}
 use Rattle.forms.specs.Forms.{isLine}
 use Rattle.telegram.specs.Answers.{Answer, answerOf}
 use Rattle.telegram.specs.Reading.{readingOf}

@@ -3,7 +3,7 @@ ghost use mathlib.Core.Path.{_≡_};
 ghost use Prim.Native.Nat.{_≤_, _<_};
 ghost use Rattle.turns.specs.Turns.{turnOf};
 ghost use Rattle.cutting.specs.Gather.{gatheredOf, atStart, holding, shut, turned, gatherOf};
-use forms::refusals::Refusal;
+use records::refusals::Refusal;
 use turns::turns::Turn;
 use turns::turns::turn_of;
 

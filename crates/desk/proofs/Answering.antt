@@ -3,7 +3,7 @@ use mathlib.Core.Path.{_≡_}
 use Prim.Native.Nat.{ℕ}
 use lib.ListN.{getD}
 use borrow.Author.Tests.{eq-eqb, ne-eqb}
-use Rattle.forms.specs.declared.records.Record.the-variants.{Approved}
+use Rattle.records.specs.declared.records.Record.the-variants.{Approved}
 use Rattle.desk.specs.Answers.{oldest, keyed}
 use Rattle.desk.specs.State.{blank}
 use Rattle.desk.specs.Replies.{popped, keyOn, polledOf}

@@ -5,8 +5,8 @@ use Prim.Native.Nat.{ℕ, _≤_, _<_}
 use lib.Dec.{eqb}
 use borrow.Author.Tests.{eq-eqb, ne-eqb, le-ltb, lt-ltb}
 use Rattle.forms.specs.Forms.{dataType}
-use Rattle.forms.specs.Records.{typeOf}
-use Rattle.forms.specs.declared.records.Record.{Record}
+use Rattle.records.specs.Records.{typeOf}
+use Rattle.records.specs.declared.records.Record.{Record}
 use Rattle.values.specs.Values.{permitsRecord}
 use Rattle.telegram.specs.Answers.{good, fault}
 use Rattle.desk.specs.Answers.{done, lost, refuses}

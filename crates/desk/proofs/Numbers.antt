@@ -13,7 +13,7 @@ use Rattle.laws.specs.Text.{codes}
 use Rattle.laws.proofs.Truths.{clash}
 use Rattle.laws.proofs.Passes.{on-test, oneOf-passes, from-bounds}
 use Rattle.forms.specs.Forms.{isLine}
-use Rattle.forms.specs.declared.records.Record.{Record}
+use Rattle.records.specs.declared.records.Record.{Record}
 use Rattle.telegram.specs.Answers.{Answer, accepts, refuses, Fault, good, fault, firstFault, unless}
 use Rattle.telegram.specs.Frame.{frameChecks}
 use Rattle.telegram.specs.Field.{fieldChecks}

@@ -15,8 +15,8 @@ use Rattle.laws.proofs.Passes.{on-test, oneOf-passes, from-passes}
 use Rattle.laws.specs.Numerals.{numeralOn, leftOf}
 use Rattle.characters.specs.Characters.{inSet}
 use Rattle.forms.specs.Forms.{isLine, forms, onLine, lookIn, formOf, slotsIn, countOf, slotsOf, dataType, dataIn}
-use Rattle.forms.specs.Records.{typeOf}
-use Rattle.forms.specs.declared.records.Record.the-variants.{Approved, Rejected}
+use Rattle.records.specs.Records.{typeOf}
+use Rattle.records.specs.declared.records.Record.the-variants.{Approved, Rejected}
 use Rattle.packets.specs.Packets.{packetOf, leadOf, isDecimal, permits}
 use Rattle.values.specs.Values.{textOf, bodyOf, permittedFrom, permitted, permitsValue, permitsValues, permitsRecord}
 use Rattle.desk.specs.State.{blank, mayReply, slotFits, keyFits, wantedFits}

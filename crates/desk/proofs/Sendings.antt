@@ -6,15 +6,15 @@ use Prim.Native.Nat.{ℕ, _≤_, _<_}
 use native.Mathlib.Omega.{arith}
 use lib.ListN.{length, take, drop, replicate, length-append}
 use lib.Seq.{take-append-seam, take-length}
-use Rattle.forms.specs.declared.records.Record.{Record}
-use Rattle.forms.specs.declared.records.Record.the-variants.{Rejected}
+use Rattle.records.specs.declared.records.Record.{Record}
+use Rattle.records.specs.declared.records.Record.the-variants.{Rejected}
 use Rattle.values.specs.Values.{permitsRecord, lengthOf}
-use Rattle.forms.specs.Refusals.{numberOf, placeOf}
+use Rattle.records.specs.Refusals.{numberOf, placeOf}
 use Rattle.telegram.specs.Answers.{Outcome, wrote, refusesTo, outcomeOf}
 use Rattle.writing.specs.Writing.{Write, telegramOf, writingOf}
 use Rattle.telegram.specs.declared.answers.Writing.{Writing}
 use Rattle.telegram.specs.declared.answers.Writing.the-variants.{Written, Refused}
-use Rattle.forms.specs.declared.refusals.Refusal.{Refusal}
+use Rattle.records.specs.declared.refusals.Refusal.{Refusal}
 use Rattle.trips.proofs.Trips.{telegram-length, length-bounds, output}
 use borrow.Author.Tests.{lt-leb, le-leb}
 use Rattle.desk.specs.State.{inRanges}

@@ -2,8 +2,8 @@
 use Prim.Native.Nat.{ℕ}
 use Prim.Native.Char.{code}
 use mathlib.Core.Bool.{Bool}
-use Rattle.forms.specs.Refusals.{numberOf, placeOf}
-use Rattle.forms.specs.declared.records.Record.{Record}
+use Rattle.records.specs.Refusals.{numberOf, placeOf}
+use Rattle.records.specs.declared.records.Record.{Record}
 use Rattle.desk.specs.declared.answers.Outcome as o
 use Rattle.desk.specs.declared.answers.Source as s
 use Rattle.desk.specs.declared.answers.Heard as h

@@ -5,7 +5,7 @@ use mathlib.Core.Bool.{Bool, true, cond}
 use mathlib.Core.List.{List, _++_}
 use lib.Dec.{leb}
 use lib.ListN.{length, take, drop, replicate}
-use Rattle.forms.specs.declared.records.Record.the-variants.{Rejected}
+use Rattle.records.specs.declared.records.Record.the-variants.{Rejected}
 use Rattle.writing.specs.Writing.{telegramOf}
 use Rattle.desk.specs.Answers.{Told, turnsDown, silent, faulted, repeated, handled}
 use Rattle.desk.specs.State.{inRanges}

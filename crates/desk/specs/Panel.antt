@@ -6,8 +6,8 @@ use lib.Dec.{ltb, eqb}
 use lib.ListN.{set}
 use Rattle.laws.specs.Truth.{both}
 use Rattle.forms.specs.Forms.{dataType}
-use Rattle.forms.specs.Records.{typeOf}
-use Rattle.forms.specs.declared.records.Record.{Record}
+use Rattle.records.specs.Records.{typeOf}
+use Rattle.records.specs.declared.records.Record.{Record}
 use Rattle.values.specs.Values.{permitsRecord}
 use Rattle.link.specs.Clock.{runOut}
 use Rattle.telegram.specs.Answers.{Fault, good, fault}

@@ -5,8 +5,8 @@ use mathlib.Core.Bool.{cond}
 use mathlib.Core.List.{List, [], _∷_}
 use lib.Dec.{eqb}
 use lib.ListN.{getD}
-use Rattle.forms.specs.declared.records.Record.{Record}
-use Rattle.forms.specs.declared.records.Record.the-variants.{Approved, Rejected}
+use Rattle.records.specs.declared.records.Record.{Record}
+use Rattle.records.specs.declared.records.Record.the-variants.{Approved, Rejected}
 use Rattle.desk.specs.Answers.{Origin, requested, oldest, keyed, handed, contents, notMaster, nothingSet}
 use Rattle.desk.specs.State.{blank}
 use Rattle.desk.specs.Panel.{withQueue}

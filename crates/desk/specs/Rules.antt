@@ -8,9 +8,9 @@ use lib.ListN.{getD}
 use Rattle.laws.specs.Truth.{both, from, oneOf}
 use Rattle.laws.specs.Text.{codes}
 use Rattle.forms.specs.Forms.{byMaster}
-use Rattle.forms.specs.Records.{typeOf}
-use Rattle.forms.specs.Refusals.{numberOf, placeOf}
-use Rattle.forms.specs.declared.records.Record.{Record}
+use Rattle.records.specs.Records.{typeOf}
+use Rattle.records.specs.Refusals.{numberOf, placeOf}
+use Rattle.records.specs.declared.records.Record.{Record}
 use Rattle.telegram.specs.Answers.{Answer, accepts, refuses}
 use Rattle.telegram.specs.Reading.{readingOf}
 use Rattle.link.specs.Counters.{sameNumber}

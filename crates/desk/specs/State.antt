@@ -7,9 +7,9 @@ use lib.ListN.{take, replicate}
 use Rattle.laws.specs.Truth.{both, from, oneOf, every}
 use Rattle.laws.specs.Text.{codes}
 use Rattle.forms.specs.Forms.{isLine, dataType}
-use Rattle.forms.specs.Records.{typeOf}
-use Rattle.forms.specs.declared.records.Record.{Record}
-use Rattle.forms.specs.declared.records.Record.the-variants.{Approved}
+use Rattle.records.specs.Records.{typeOf}
+use Rattle.records.specs.declared.records.Record.{Record}
+use Rattle.records.specs.declared.records.Record.the-variants.{Approved}
 use Rattle.values.specs.Values.{permitsRecord}
 use Rattle.link.specs.Counters.{inRange}
 use Rattle.desk.specs.Answers.{Done, done, refuses}

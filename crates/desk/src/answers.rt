@@ -1,6 +1,6 @@
 // What the desk's calls answer (01 'Numbered answers', 'Link rules').
-use forms::records::Record;
-use forms::refusals::Refusal;
+use records::records::Record;
+use records::refusals::Refusal;
 
 // A call that hears nothing is done, or is done and notes the line lost, or refuses.
 pub enum Outcome {

@@ -3,7 +3,7 @@ ghost use mathlib.Core.Path.{_≡_};
 ghost use mathlib.Core.Bool.{true};
 ghost use Prim.Native.Nat.{_≤_, _<_};
 ghost use lib.ListN.{length, take};
-ghost use Rattle.forms.specs.declared.records.Record.the-variants.{Rejected};
+ghost use Rattle.records.specs.declared.records.Record.the-variants.{Rejected};
 ghost use Rattle.values.specs.Values.{permitsRecord};
 ghost use Rattle.writing.specs.Writing.{telegramOf};
 ghost use Rattle.desk.specs.State.{inRanges};
@@ -15,8 +15,8 @@ use crate::answers::Heard;
 use crate::deciding::Matter;
 use crate::deciding::Rule;
 use crate::state::Desk;
-use forms::records::Record;
 use link::counters::LastTaken;
+use records::records::Record;
 use telegram::answers::Writing;
 use writing::writing::write;
 

@@ -1,15 +1,15 @@
 // Which rule settles what the desk hears (01 'Link rules', 'Desk').
 ghost use mathlib.Core.Path.{_≡_};
 ghost use Prim.Native.Nat.{_-_};
-ghost use Rattle.forms.specs.Refusals.{numberOf, placeOf};
+ghost use Rattle.records.specs.Refusals.{numberOf, placeOf};
 ghost use Rattle.desk.specs.Rules.{matterOf, rulingOf, isNumber, repeats, matterIn, goodFrame, badFrame, rulingIn};
 use crate::state::Desk;
 use characters::slices::byte_at;
-use forms::records::Record;
-use forms::records::type_of;
-use forms::refusals::Refusal;
-use forms::refusals::number_of;
 use forms::table::by_master;
+use records::records::Record;
+use records::records::type_of;
+use records::refusals::Refusal;
+use records::refusals::number_of;
 use telegram::answers::Reading;
 use telegram::reading::read;
 

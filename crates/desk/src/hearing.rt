@@ -5,7 +5,7 @@ ghost use Rattle.desk.specs.Hearing.{hearOf};
 use crate::answers::Heard;
 use crate::applying::Hearing;
 use crate::state::Desk;
-use forms::refusals::Refusal;
+use records::refusals::Refusal;
 
 impl Desk {
     pub fn hear(self, at: u32, frame: &[u8], out: &mut [u8]) -> Hearing

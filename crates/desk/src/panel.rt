@@ -10,11 +10,11 @@ use crate::state::Slot;
 use crate::state::Step;
 use crate::state::Wanted;
 use crate::state::is_key;
-use forms::records::Record;
-use forms::records::type_of;
-use forms::refusals::Refusal;
 use forms::table::data_type;
 use link::clock::run_out;
+use records::records::Record;
+use records::records::type_of;
+use records::refusals::Refusal;
 use telegram::answers::Check;
 use values::values::permits_record;
 

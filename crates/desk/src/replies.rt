@@ -8,7 +8,7 @@ use crate::deciding::Matter;
 use crate::state::Desk;
 use crate::state::Slot;
 use crate::state::Wanted;
-use forms::records::Record;
+use records::records::Record;
 
 // The state behind the choice of an answer, the record that answers, and where it comes from.
 pub struct Reply {

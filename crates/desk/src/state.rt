@@ -6,12 +6,12 @@ ghost use Rattle.laws.specs.Truth.{every};
 ghost use Rattle.desk.specs.Answers.{outcomeOf};
 ghost use Rattle.desk.specs.State.{mayReply, slotFits, isKey, keyFits, keptFits, wantedFits, numbersFit, recordsFit, inRanges, fresh, startOf};
 use crate::answers::Outcome;
-use forms::records::Record;
-use forms::records::type_of;
-use forms::refusals::Refusal;
 use forms::table::data_type;
 use forms::table::is_line;
 use link::counters::LastTaken;
+use records::records::Record;
+use records::records::type_of;
+use records::refusals::Refusal;
 use values::values::permits_record;
 
 // A place of the queue.

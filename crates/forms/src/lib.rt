@@ -1,4 +1,2 @@
-// The records, the refusals and the table of forms (01 'Telegram forms', 'Numbered answers').
-pub mod records;
-pub mod refusals;
+// The table of forms (01 'Telegram forms').
 pub mod table;

@@ -8,8 +8,8 @@ use lib.ListN.{take}
 use borrow.Author.Tests.{ne-eqb}
 use Rattle.laws.proofs.Truths.{both-left}
 use Rattle.forms.specs.Forms.{isLine, byMaster}
-use Rattle.forms.specs.Records.{typeOf}
-use Rattle.forms.specs.declared.records.Record.{Record}
+use Rattle.records.specs.Records.{typeOf}
+use Rattle.records.specs.declared.records.Record.{Record}
 use Rattle.values.specs.Values.{permitsRecord}
 use Rattle.telegram.specs.Answers.{good}
 use Rattle.telegram.specs.Reading.{readingOf}

@@ -12,8 +12,8 @@ use Rattle.laws.specs.Numerals.{numeralOn, numberOn, leftOf}
 use Rattle.characters.specs.Characters.{inSet}
 use Rattle.characters.specs.Checksum.{total, checksumOf, checkText}
 use Rattle.forms.specs.Forms.{forms, onLine, lookIn, formOf, dataIn, dataType, slotsIn, countOf, slotsOf, widthIn, widthOf}
-use Rattle.forms.specs.Records.{recordOf}
-use Rattle.forms.specs.declared.records.Record.the-variants.{Idling, Position, Stop, Train}
+use Rattle.records.specs.Records.{recordOf}
+use Rattle.records.specs.declared.records.Record.the-variants.{Idling, Position, Stop, Train}
 use Rattle.packets.specs.Packets.{packetOf, leadOf, isDecimal, permits}
 use Rattle.values.specs.Values.{permitsRecord, textOf, valueOf, bodyOf, permittedFrom, permitted, permitsValue, permitsValues, lengthOf}
 use Rattle.telegram.specs.Frame.{lf, cr, countText, summedOf, fieldOf, frameOf, frameChecks}

@@ -10,7 +10,7 @@ use borrow.Author.Tests.{eqb-true}
 use Rattle.laws.specs.Truth.{both, from}
 use Rattle.laws.proofs.Truths.{both-left, both-right}
 use Rattle.laws.proofs.Passes.{on-test, from-bounds}
-use Rattle.forms.specs.declared.records.Record.{Record}
+use Rattle.records.specs.declared.records.Record.{Record}
 use Rattle.telegram.specs.Answers.{Answer, accepts, refuses, good}
 use Rattle.telegram.specs.Frame.{frameChecks}
 use Rattle.telegram.specs.Reading.{readingOf}

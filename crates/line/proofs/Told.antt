@@ -5,7 +5,7 @@ use mathlib.Core.List.{List}
 use Prim.Native.Nat.{ℕ, _+_}
 use lib.Dec.{eqb}
 use lib.ListN.{length, getD}
-use Rattle.forms.specs.Records.{typeOf}
+use Rattle.records.specs.Records.{typeOf}
 use Rattle.telegram.specs.Answers.{Answer, accepts, Fault, firstFault}
 use Rattle.telegram.specs.Answers as w
 use Rattle.telegram.specs.Frame.{frameChecks}

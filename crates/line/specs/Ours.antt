@@ -5,8 +5,8 @@ use mathlib.Core.List.{List, []}
 use Prim.Native.Nat.{ℕ}
 use lib.ListN.{take}
 use Rattle.forms.specs.Forms.{byMaster, bySlave}
-use Rattle.forms.specs.Records.{typeOf}
-use Rattle.forms.specs.declared.records.Record.{Record}
+use Rattle.records.specs.Records.{typeOf}
+use Rattle.records.specs.declared.records.Record.{Record}
 use Rattle.telegram.specs.Answers.{Fault, good, fault, firstFault, accepts}
 use Rattle.telegram.specs.Frame.{frameChecks}
 use Rattle.telegram.specs.Reading.{readingOf}

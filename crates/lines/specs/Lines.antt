@@ -5,7 +5,7 @@ use mathlib.Core.List.{List, [], _∷_, _++_}
 use lib.Dec.{leb}
 use lib.ListN.{length, drop}
 use Rattle.laws.specs.Text.{codes}
-use Rattle.forms.specs.Records.{typeOf}
+use Rattle.records.specs.Records.{typeOf}
 use Rattle.telegram.specs.Answers.{Answer, accepts, refuses, wrote, refusesTo}
 use Rattle.telegram.specs.Frame.{lf}
 use Rattle.writing.specs.Writing.{Write}

@@ -8,10 +8,10 @@ ghost use Rattle.lines.specs.Lines.{lastText, answerText, linePut};
 use crate::numbers::put_byte;
 use crate::numbers::put_number;
 use crate::numbers::put_word;
-use forms::records::type_of;
-use forms::refusals::Refusal;
-use forms::refusals::number_of;
-use forms::refusals::place_of;
+use records::records::type_of;
+use records::refusals::Refusal;
+use records::refusals::number_of;
+use records::refusals::place_of;
 use telegram::answers::Reading;
 use telegram::answers::Writing;
 

@@ -6,10 +6,10 @@ use Prim.Native.Nat.{ℕ, _+_}
 use Prim.Native.Char.{code}
 use lib.ListN.{length, getD}
 use borrow.Author.Tests.{eq-eqb, ne-eqb}
-use Rattle.forms.specs.Refusals.{numberOf, placeOf}
-use Rattle.forms.specs.Records.{typeOf}
-use Rattle.forms.specs.declared.records.Record.{Record}
-use Rattle.forms.specs.declared.refusals.Refusal.{Refusal}
+use Rattle.records.specs.Refusals.{numberOf, placeOf}
+use Rattle.records.specs.Records.{typeOf}
+use Rattle.records.specs.declared.records.Record.{Record}
+use Rattle.records.specs.declared.refusals.Refusal.{Refusal}
 use Rattle.telegram.specs.Answers.{Answer, answerOf, accepts, good, fault, firstFault}
 use Rattle.telegram.specs.Frame.{frameChecks}
 use Rattle.telegram.specs.Reading.{readingOf}

@@ -9,8 +9,8 @@ use lib.ListN.{getD}
 use borrow.Author.Tests.{eq-eqb, ne-eqb}
 use Rattle.laws.specs.Truth.{oneOf}
 use Rattle.forms.specs.Forms.{dataType}
-use Rattle.forms.specs.Records.{typeOf, valuesOf}
-use Rattle.forms.specs.declared.records.Record.{Record}
+use Rattle.records.specs.Records.{typeOf, valuesOf}
+use Rattle.records.specs.declared.records.Record.{Record}
 use Rattle.master.specs.Rules.{isFailure, answersTo, permittedAnswer}
 
 module _ (rec : Record) (kind : ℕ) (e : kind ≡ typeOf rec) where

@@ -10,9 +10,9 @@ use Rattle.laws.proofs.Truths.{both-left, both-right, both-true}
 use Rattle.laws.proofs.Passes.{from-passes}
 use Rattle.laws.specs.Numerals.{numeralOn, leftOf}
 use Rattle.forms.specs.Forms.{isLine, byMaster, forms, onLine, lookIn, formOf, dataIn, dataType, slotsIn, countOf, slotsOf}
-use Rattle.forms.specs.Records.{typeOf}
+use Rattle.records.specs.Records.{typeOf}
 use Rattle.characters.specs.Characters.{inSet}
-use Rattle.forms.specs.declared.records.Record.{Record}
+use Rattle.records.specs.declared.records.Record.{Record}
 use Rattle.packets.specs.Packets.{packetOf, leadOf, isDecimal, permits}
 use Rattle.values.specs.Values.{permitsRecord, textOf, bodyOf, permittedFrom, permitted, permitsValue, permitsValues}
 use Rattle.telegram.specs.Answers.{good, fault}

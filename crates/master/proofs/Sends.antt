@@ -7,10 +7,10 @@ use native.Mathlib.Omega.{arith}
 use lib.ListN.{length, drop}
 use borrow.Author.Tests.{eq-eqb, ne-eqb}
 use Rattle.forms.specs.Forms.{byMaster}
-use Rattle.forms.specs.Refusals.{numberOf, placeOf}
-use Rattle.forms.specs.Records.{typeOf}
-use Rattle.forms.specs.declared.records.Record.{Record}
-use Rattle.forms.specs.declared.refusals.Refusal.{Refusal}
+use Rattle.records.specs.Refusals.{numberOf, placeOf}
+use Rattle.records.specs.Records.{typeOf}
+use Rattle.records.specs.declared.records.Record.{Record}
+use Rattle.records.specs.declared.refusals.Refusal.{Refusal}
 use Rattle.values.specs.Values.{permitsRecord, lengthOf}
 use Rattle.telegram.specs.Answers.{good, fault, Outcome, wrote, refusesTo, outcomeOf}
 use Rattle.writing.specs.Writing.{telegramOf, writingOf}

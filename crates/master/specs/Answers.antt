@@ -1,7 +1,7 @@
 -- What the master's calls answer, in the paper's numbers and values (01 'Link rules', 'Numbered answers'). Assumes nothing.
 use Prim.Native.Nat.{ℕ}
-use Rattle.forms.specs.Refusals.{numberOf, placeOf}
-use Rattle.forms.specs.declared.records.Record.{Record}
+use Rattle.records.specs.Refusals.{numberOf, placeOf}
+use Rattle.records.specs.declared.records.Record.{Record}
 use Rattle.telegram.specs.Answers.{Answer, answerOf}
 use Rattle.master.specs.declared.answers.Sending.{Sending}
 use Rattle.master.specs.declared.answers.Cause.{Cause}

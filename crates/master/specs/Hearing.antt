@@ -5,8 +5,8 @@ use mathlib.Core.Bool.{true, cond}
 use mathlib.Core.List.{List}
 use lib.Dec.{eqb}
 use lib.ListN.{length, getD}
-use Rattle.forms.specs.Records.{typeOf}
-use Rattle.forms.specs.declared.records.Record.{Record}
+use Rattle.records.specs.Records.{typeOf}
+use Rattle.records.specs.declared.records.Record.{Record}
 use Rattle.telegram.specs.Answers.{Answer, accepts, refuses, Fault, good, fault, firstFault}
 use Rattle.telegram.specs.Frame.{frameChecks}
 use Rattle.telegram.specs.Reading.{readingOf}

@@ -8,9 +8,9 @@ use lib.ListN.{getD}
 use Rattle.laws.specs.Truth.{both, oneOf}
 use Rattle.laws.specs.Text.{codes}
 use Rattle.forms.specs.Forms.{dataType}
-use Rattle.forms.specs.Records.{typeOf, valuesOf}
-use Rattle.forms.specs.declared.records.Record.{Record}
-use Rattle.forms.specs.declared.records.Record.the-variants.{Request, Idling}
+use Rattle.records.specs.Records.{typeOf, valuesOf}
+use Rattle.records.specs.declared.records.Record.{Record}
+use Rattle.records.specs.declared.records.Record.the-variants.{Request, Idling}
 use Rattle.master.specs.declared.state.Master.{Master}
 
 -- T0 is 20,000

@@ -5,9 +5,9 @@ use mathlib.Core.Bool.{Bool, true, false, cond}
 use lib.Dec.{ltb, eqb}
 use Rattle.laws.specs.Truth.{both, either}
 use Rattle.forms.specs.Forms.{isLine, byMaster}
-use Rattle.forms.specs.Records.{typeOf}
-use Rattle.forms.specs.declared.records.Record.{Record}
-use Rattle.forms.specs.declared.records.Record.the-variants.{Idling}
+use Rattle.records.specs.Records.{typeOf}
+use Rattle.records.specs.declared.records.Record.{Record}
+use Rattle.records.specs.declared.records.Record.the-variants.{Idling}
 use Rattle.values.specs.Values.{permitsRecord}
 use Rattle.telegram.specs.Answers.{Fault, good, fault}
 use Rattle.link.specs.Counters.{inRange, changedOf}

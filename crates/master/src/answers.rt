@@ -1,6 +1,6 @@
 // What the master's calls answer (01 'Link rules', 'Numbered answers').
-use forms::records::Record;
-use forms::refusals::Refusal;
+use records::records::Record;
+use records::refusals::Refusal;
 use telegram::answers::Reading;
 
 // Which sending of a telegram it is: the first of an offered record, one again, or the first of a poll.

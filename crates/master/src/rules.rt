@@ -4,10 +4,10 @@ ghost use mathlib.Core.List.{[], _∷_};
 ghost use Rattle.laws.specs.Truth.{oneOf};
 ghost use Rattle.master.specs.Rules.{t0Limit, t2Limit, pollOf, isFailure, permittedAnswer};
 use crate::state::Master;
-use forms::records::Record;
-use forms::records::type_of;
-use forms::records::values_of;
 use forms::table::data_type;
+use records::records::Record;
+use records::records::type_of;
+use records::records::values_of;
 
 // The limits in milliseconds.
 const T0: u32 = 20000;

@@ -5,12 +5,12 @@ ghost use Rattle.master.specs.Answers.{toldOf};
 ghost use Rattle.master.specs.declared.answers.Answer.the-variants;
 ghost use Rattle.master.specs.State.{sendable, inRanges, callFault, afterSending, withLine, freed, answeredState, startOf};
 use crate::answers::Answer;
-use forms::records::Record;
-use forms::records::type_of;
-use forms::refusals::Refusal;
 use forms::table::by_master;
 use forms::table::is_line;
 use link::counters::ToSend;
+use records::records::Record;
+use records::records::type_of;
+use records::refusals::Refusal;
 use telegram::answers::Check;
 use values::values::permits_record;
 

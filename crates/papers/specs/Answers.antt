@@ -3,9 +3,9 @@ use mathlib.Core.Path.{_≡_, refl, sym, _∙_}
 use mathlib.Core.Bool.{cond}
 use Prim.Native.Nat.{ℕ}
 use lib.Dec.{eqb}
-use Rattle.forms.specs.Refusals.{numberOf, placeOf}
-use Rattle.forms.specs.declared.refusals.Refusal.{Refusal}
-use Rattle.forms.specs.declared.refusals.Refusal.the-variants.{Short, Long, NoStart, Count, NoEnd, Checksum, Number, Kind, Character, Form, Value, NotSent, Range, NoRoom, State, Busy, Full}
+use Rattle.records.specs.Refusals.{numberOf, placeOf}
+use Rattle.records.specs.declared.refusals.Refusal.{Refusal}
+use Rattle.records.specs.declared.refusals.Refusal.the-variants.{Short, Long, NoStart, Count, NoEnd, Checksum, Number, Kind, Character, Form, Value, NotSent, Range, NoRoom, State, Busy, Full}
 use Rattle.telegram.specs.Answers.{answerOf, outcomeOf, faultOf}
 use Rattle.telegram.specs.declared.answers.Reading as r
 use Rattle.telegram.specs.declared.answers.Writing as w

@@ -12,8 +12,8 @@ use Rattle.characters.specs.Checksum.{total, checksumOf, checkText}
 use Rattle.forms.specs.Forms.{forms, onLine, lookIn, formOf, dataIn, dataType, slotsIn, countOf, slotsOf, widthIn, widthOf}
 use Rattle.packets.specs.Packets.{packetOf, leadOf, isDecimal, permits}
 use Rattle.values.specs.Values.{valueOf, permittedFrom, permitted}
-use Rattle.forms.specs.Records.{recordOf}
-use Rattle.forms.specs.declared.records.Record.the-variants.{Approved, Rejected, Request, Idling, Stop, Train, TrainData}
+use Rattle.records.specs.Records.{recordOf}
+use Rattle.records.specs.declared.records.Record.the-variants.{Approved, Rejected, Request, Idling, Stop, Train, TrainData}
 use Rattle.telegram.specs.Answers.{Answer, accepts, refuses}
 use Rattle.telegram.specs.Frame.{lf, cr, countText, summedOf, fieldOf, frameChecks}
 use Rattle.telegram.specs.Field.{outside, wrongLetter, badValue, valuesIn, misshapen, fieldChecks}

@@ -15,7 +15,7 @@ use Rattle.characters.specs.Checksum.{total, checksumOf, checkText}
 use Rattle.forms.specs.Forms.{forms, onLine, isLine, lookIn, formOf, slotsIn, countOf, slotsOf, widthIn, widthOf}
 use Rattle.packets.specs.Packets.{packetOf, permits}
 use Rattle.values.specs.Values.{permittedFrom, permitted}
-use Rattle.forms.specs.declared.records.Record.{Record}
+use Rattle.records.specs.declared.records.Record.{Record}
 use Rattle.telegram.specs.declared.answers.Spot.{Spot}
 use Rattle.telegram.specs.declared.answers.Spot.the-variants.{Nowhere, At}
 use Rattle.telegram.specs.Answers.{accepts, refuses, Fault, good, fault, firstFault, unless}

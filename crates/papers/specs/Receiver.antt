@@ -9,7 +9,7 @@ use lib.Dec.{ltb}
 use lib.ListN.{length, getD}
 use borrow.Author.Tests.{ltb-true, ltb-false, lt-ltb, le-ltb}
 use Rattle.characters.specs.Checksum.{total, checksumOf, hexOf, checkText}
-use Rattle.forms.specs.declared.records.Record.{Record}
+use Rattle.records.specs.declared.records.Record.{Record}
 use Rattle.telegram.specs.Answers.{accepts}
 use Rattle.telegram.specs.Frame.{summedOf, isTwo}
 use Rattle.telegram.specs.Reading.{readingOf}

@@ -12,8 +12,8 @@ use desk::state::Desk;
 use desk::state::Slot;
 use desk::state::Step;
 use desk::state::Wanted;
-use forms::refusals::Refusal;
 use link::counters::LastTaken;
+use records::refusals::Refusal;
 
 // The state: line, last number taken, queued records.
 fn state(d: Desk) {

@@ -4,7 +4,6 @@ use crate::rows::Call;
 use crate::show;
 use crate::words;
 use characters::slices::part;
-use forms::records::Record;
 use link::counters::ToSend;
 use master::answers::Answer;
 use master::answers::Cause;
@@ -12,6 +11,7 @@ use master::answers::Reason;
 use master::answers::Sending;
 use master::state::Master;
 use master::state::Step;
+use records::records::Record;
 use telegram::answers::Reading;
 
 // The state: line, number to send, sendings made.

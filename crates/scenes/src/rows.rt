@@ -3,8 +3,8 @@ ghost use Prim.Native.Nat.{_<_, _≤_};
 use characters::slices::byte_at;
 use characters::slices::less;
 use characters::slices::part;
-use forms::records::Record;
-use forms::records::record_of;
+use records::records::Record;
+use records::records::record_of;
 
 // The place of the first separator from a place on, or the end.
 fn end_from(s: &[u8], separator: u8, from: usize) -> usize {

@@ -2,13 +2,13 @@
 use crate::words;
 use characters::slices::byte_at;
 use characters::slices::part;
-use forms::records::Record;
-use forms::records::type_of;
-use forms::records::values_of;
-use forms::refusals::Refusal;
-use forms::refusals::number_of;
-use forms::refusals::place_of;
 use libc::STDOUT_FILENO;
+use records::records::Record;
+use records::records::type_of;
+use records::records::values_of;
+use records::refusals::Refusal;
+use records::refusals::number_of;
+use records::refusals::place_of;
 
 pub(crate) fn bytes(text: &[u8]) {
     io::write_all(STDOUT_FILENO, text);

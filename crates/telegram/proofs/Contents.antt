@@ -7,7 +7,7 @@ use lib.ListN.{length, getD}
 use native.Mathlib.Nat.{add-zero}
 use native.Mathlib.Omega.{arith}
 use Rattle.forms.specs.Forms.{formOf, slotsOf, isLine}
-use Rattle.forms.specs.Records.{recordOf}
+use Rattle.records.specs.Records.{recordOf}
 use Rattle.forms.specs.declared.table.Looked.{Looked}
 use Rattle.telegram.specs.declared.answers.Spot.{Spot}
 use Rattle.telegram.specs.declared.answers.Spot.the-variants.{Nowhere, At}

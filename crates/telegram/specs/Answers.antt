@@ -1,8 +1,8 @@
 -- What reading and writing answer, in the paper's numbers and values (01 'Numbered answers'). Assumes nothing.
 use Prim.Native.Nat.{ℕ, _+_}
 use mathlib.Core.List.{List, [], _∷_}
-use Rattle.forms.specs.Refusals.{numberOf, placeOf}
-use Rattle.forms.specs.declared.records.Record.{Record}
+use Rattle.records.specs.Refusals.{numberOf, placeOf}
+use Rattle.records.specs.declared.records.Record.{Record}
 use Rattle.telegram.specs.declared.answers.Spot.{Spot}
 use Rattle.telegram.specs.declared.answers.Spot.the-variants.{Nowhere, At}
 use Rattle.telegram.specs.declared.answers.Reading as r

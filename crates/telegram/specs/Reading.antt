@@ -5,8 +5,8 @@ use mathlib.Core.Bool.{cond}
 use mathlib.Core.List.{List, [], _∷_, _++_}
 use lib.ListN.{getD}
 use Rattle.forms.specs.Forms.{slotsOf, formOf, isLine}
-use Rattle.forms.specs.Records.{recordOf}
-use Rattle.forms.specs.declared.records.Record.{Record}
+use Rattle.records.specs.Records.{recordOf}
+use Rattle.records.specs.declared.records.Record.{Record}
 use Rattle.forms.specs.declared.table.Form.{Form}
 use Rattle.telegram.specs.declared.answers.Spot.{Spot}
 use Rattle.telegram.specs.Answers.{Answer, accepts, refuses, firstFault, unless}

@@ -1,6 +1,6 @@
 // What reading and writing answer.
-use forms::records::Record;
-use forms::refusals::Refusal;
+use records::records::Record;
+use records::refusals::Refusal;
 
 // A reading is a record with its number, or a refusal with its place.
 pub enum Reading {

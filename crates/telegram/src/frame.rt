@@ -11,7 +11,7 @@ use characters::checksum::hex;
 use characters::slices::byte_at;
 use characters::slices::less;
 use characters::slices::part;
-use forms::refusals::Refusal;
+use records::refusals::Refusal;
 
 // Whether the two characters at a place are these.
 fn is_two(s: &[u8], at: usize, high: u8, low: u8) -> bool

@@ -22,14 +22,14 @@ use characters::slices::byte_at;
 use characters::slices::less;
 use characters::slices::part;
 use characters::slices::wide;
-use forms::records::record_of;
-use forms::refusals::Refusal;
 use forms::table::Form;
 use forms::table::count_of;
 use forms::table::form_of;
 use forms::table::is_line;
 use packets::packets::is_decimal;
 use packets::packets::lead_of;
+use records::records::record_of;
+use records::refusals::Refusal;
 
 // The number that a number's digits and one digit more say.
 fn with_digit(decimal: bool, a: u32, b: u8) -> u32

@@ -8,7 +8,7 @@ use lib.Dec.{eqb}
 use lib.ListN.{length, getD}
 use borrow.Author.Tests.{eqb-true, eq-eqb}
 use Rattle.forms.specs.Forms.{isLine, formOf, slotsOf, widthOf}
-use Rattle.forms.specs.declared.records.Record.{Record}
+use Rattle.records.specs.declared.records.Record.{Record}
 use Rattle.forms.proofs.Found.{found-line}
 use Rattle.telegram.specs.Answers.{accepts, firstFault}
 use Rattle.telegram.specs.Frame.{fieldOf, frameChecks}

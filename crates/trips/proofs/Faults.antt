@@ -6,7 +6,7 @@ use Prim.Native.Nat.{ℕ, zero, suc, _+_}
 use lib.ListN.{getD}
 use Rattle.laws.specs.Truth.{All}
 use Rattle.laws.proofs.Truths.{clash}
-use Rattle.forms.specs.declared.records.Record.{Record}
+use Rattle.records.specs.declared.records.Record.{Record}
 use Rattle.telegram.specs.Answers.{accepts, refuses, Fault, good, fault, firstFault, unless}
 use Rattle.telegram.specs.Frame.{needs}
 use Rattle.telegram.specs.declared.answers.Spot.{Spot}

@@ -7,7 +7,7 @@ use Prim.Native.Char.{code}
 use lib.ListN.{getD}
 use Rattle.laws.proofs.Truths.{both-true}
 use Rattle.forms.specs.Forms.{Slot, isLine, formOf, slotsOf}
-use Rattle.forms.specs.Records.{typeOf, valuesOf}
+use Rattle.records.specs.Records.{typeOf, valuesOf}
 use Rattle.forms.proofs.Found.{found-line}
 use Rattle.values.specs.Values.{permitsRecord}
 use Rattle.telegram.specs.Frame.{fieldOf}

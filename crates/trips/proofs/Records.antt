@@ -13,11 +13,11 @@ use Rattle.laws.specs.Numerals.{numeralOn, leftOf, numberOn}
 use Rattle.laws.proofs.Truths.{clash, both-left, both-right}
 use Rattle.forms.specs.Forms.{Slot, forms, isLine, formOf, slotsIn, countOf, slotsOf}
 use Rattle.packets.specs.Packets.{packetOf, leadOf, isDecimal, permits}
-use Rattle.forms.specs.Records.{typeOf, paired, radioValues, fieldsOf, valuesOf, radioOf, recordOf}
+use Rattle.records.specs.Records.{typeOf, paired, radioValues, fieldsOf, valuesOf, radioOf, recordOf}
 use Rattle.values.specs.Values.{textOf, valueOf, bodyOf, permittedFrom, permitted, permitsValue, permitsValues, permitsRecord}
-use Rattle.forms.specs.declared.records.Radio.{Radio}
-use Rattle.forms.specs.declared.records.Record.{Record}
-use Rattle.forms.specs.declared.records.Record.the-variants.{Approved, Rejected, Request, Idling, Test, Stop, RadioFault, Fault, Position, Train, TrainData, RadioData, RadioUpdate, Transponder}
+use Rattle.records.specs.declared.records.Radio.{Radio}
+use Rattle.records.specs.declared.records.Record.{Record}
+use Rattle.records.specs.declared.records.Record.the-variants.{Approved, Rejected, Request, Idling, Test, Stop, RadioFault, Fault, Position, Train, TrainData, RadioData, RadioUpdate, Transponder}
 use Rattle.forms.specs.declared.table.Form.{Form}
 use Rattle.forms.proofs.Found.{found-row, found-line}
 use Rattle.telegram.specs.Field.{valuesIn}

@@ -12,7 +12,7 @@ use Rattle.laws.specs.Truth.{oneOf, every, All}
 use Rattle.laws.proofs.Passes.{every-all}
 use Rattle.characters.specs.Characters.{inSet}
 use Rattle.forms.specs.Forms.{Slot, forms, formOf, slotsIn, countOf, slotsOf, widthIn, widthOf}
-use Rattle.forms.specs.Records.{typeOf, fieldsOf, recordOf}
+use Rattle.records.specs.Records.{typeOf, fieldsOf, recordOf}
 use Rattle.forms.specs.declared.table.Form.{Form}
 use Rattle.forms.proofs.Found.{Found, found-row}
 

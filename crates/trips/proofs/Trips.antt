@@ -7,10 +7,10 @@ use native.Mathlib.Omega.{arith}
 use lib.ListN.{length, drop}
 use borrow.Author.Tests.{lt-ltb, le-leb}
 use Rattle.forms.specs.Forms.{isLine, formOf, widthOf}
-use Rattle.forms.specs.Records.{typeOf}
+use Rattle.records.specs.Records.{typeOf}
 use Rattle.values.specs.Values.{permitsRecord, lengthOf}
 use Rattle.values.proofs.Recorded.{length-row}
-use Rattle.forms.specs.declared.records.Record.{Record}
+use Rattle.records.specs.declared.records.Record.{Record}
 use Rattle.telegram.specs.Answers.{accepts, wrote}
 use Rattle.telegram.specs.Reading.{readingOf}
 use Rattle.writing.specs.Writing.{telegramOf, writingOf}

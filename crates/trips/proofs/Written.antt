@@ -7,9 +7,9 @@ use Prim.Native.Char.{code}
 use native.Mathlib.Omega.{arith}
 use lib.ListN.{length, getD}
 use Rattle.forms.specs.Forms.{Slot, formOf, slotsOf, widthOf}
-use Rattle.forms.specs.Records.{typeOf, fieldsOf, valuesOf}
+use Rattle.records.specs.Records.{typeOf, fieldsOf, valuesOf}
 use Rattle.values.specs.Values.{permitsRecord}
-use Rattle.forms.specs.declared.records.Record.{Record}
+use Rattle.records.specs.declared.records.Record.{Record}
 use Rattle.telegram.specs.Field.{dataOf, outside, valuesIn}
 use Rattle.telegram.specs.Reading.{recordIn}
 use Rattle.writing.specs.Writing.{telegramOf}

@@ -5,8 +5,8 @@ use mathlib.Core.List.{List}
 use Prim.Native.Nat.{ℕ, _+_}
 use Rattle.forms.specs.Forms.{formOf, slotsOf, widthOf}
 use Rattle.values.specs.Values.{permitsValues, permitsRecord, lengthOf}
-use Rattle.forms.specs.Records.{typeOf, valuesOf}
-use Rattle.forms.specs.declared.records.Record.{Record}
+use Rattle.records.specs.Records.{typeOf, valuesOf}
+use Rattle.records.specs.declared.records.Record.{Record}
 use Rattle.forms.specs.declared.table.Looked.{Looked}
 
 module _ (line : ℕ) (rec : Record) (k : ℕ) (looked : Looked) (e : k ≡ typeOf rec) (f : looked ≡ formOf line k) where

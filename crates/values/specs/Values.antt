@@ -8,8 +8,8 @@ use Rattle.laws.specs.Truth.{both}
 use Rattle.laws.specs.Numerals.{numeral, leftOf, numberOn}
 use Rattle.forms.specs.Forms.{Slot, slotsOf, widthOf, formOf}
 use Rattle.packets.specs.Packets.{leadOf, isDecimal, permits}
-use Rattle.forms.specs.Records.{typeOf, valuesOf}
-use Rattle.forms.specs.declared.records.Record.{Record}
+use Rattle.records.specs.Records.{typeOf, valuesOf}
+use Rattle.records.specs.declared.records.Record.{Record}
 
 -- the lead, and behind it the number, in w characters
 abbrev pub led : ℕ → Bool → ℕ → ℕ → List ℕ

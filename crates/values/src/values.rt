@@ -6,9 +6,6 @@ ghost use Rattle.laws.specs.Numerals.{base, nought, numeral, leftOf};
 ghost use Rattle.forms.specs.Forms.{slotsOf};
 ghost use Rattle.values.specs.Values.{textOf, packetText, bodyOf, permitted, permitsValue, permitsValues, permitsRecord, lengthOf};
 use characters::slices::byte_at;
-use forms::records::Record;
-use forms::records::type_of;
-use forms::records::values_of;
 use forms::table::Form;
 use forms::table::count_of;
 use forms::table::form_of;
@@ -16,6 +13,9 @@ use forms::table::width_of;
 use packets::packets::is_decimal;
 use packets::packets::lead_of;
 use packets::packets::permits_byte;
+use records::records::Record;
+use records::records::type_of;
+use records::records::values_of;
 
 // What is left of a number when its low digit is taken.
 fn quotient(decimal: bool, n: u32) -> u32

@@ -9,9 +9,9 @@ use lib.ListN.{length, drop}
 use borrow.Author.Tests.{lt-ltb, le-ltb, le-leb, lt-leb}
 use Rattle.laws.specs.Truth.{both}
 use Rattle.forms.specs.Forms.{formOf, slotsOf, widthOf, isLine}
-use Rattle.forms.specs.Records.{typeOf, valuesOf}
+use Rattle.records.specs.Records.{typeOf, valuesOf}
 use Rattle.values.specs.Values.{permitsRecord, lengthOf}
-use Rattle.forms.specs.declared.records.Record.{Record}
+use Rattle.records.specs.declared.records.Record.{Record}
 use Rattle.forms.specs.declared.table.Looked.{Looked}
 use Rattle.telegram.specs.Answers.{wrote, refusesTo}
 use Rattle.telegram.specs.Frame.{frameOf}

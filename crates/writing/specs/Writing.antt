@@ -6,9 +6,9 @@ use lib.Dec.{ltb, leb}
 use lib.ListN.{length, drop}
 use Rattle.laws.specs.Truth.{both}
 use Rattle.forms.specs.Forms.{slotsOf, formOf, isLine}
-use Rattle.forms.specs.Records.{typeOf, valuesOf}
+use Rattle.records.specs.Records.{typeOf, valuesOf}
 use Rattle.values.specs.Values.{permitsRecord, lengthOf}
-use Rattle.forms.specs.declared.records.Record.{Record}
+use Rattle.records.specs.declared.records.Record.{Record}
 use Rattle.telegram.specs.Answers.{Outcome, wrote, refusesTo}
 use Rattle.telegram.specs.Frame.{frameOf}
 use Rattle.telegram.specs.Field.{dataOf}

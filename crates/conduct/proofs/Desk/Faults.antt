@@ -9,7 +9,7 @@ use lib.Dec.{eqb}
 use lib.ListN.{length, getD, drop}
 use Rattle.laws.proofs.Passes.{on-test}
 use borrow.Author.Tests.{eqb-true, eqb-false}
-use Rattle.forms.specs.declared.records.Record.the-variants.{Rejected}
+use Rattle.records.specs.declared.records.Record.the-variants.{Rejected}
 use Rattle.telegram.specs.Answers.{accepts, refuses}
 use Rattle.telegram.specs.Reading.{readingOf}
 use Rattle.writing.specs.Writing.{telegramOf}

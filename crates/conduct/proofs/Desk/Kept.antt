@@ -9,7 +9,7 @@ use lib.ListN.{length, drop, replicate, length-append, length-drop, length-set}
 use borrow.Author.Tests.{lt-ltb, le-ltb, ne-eqb}
 use Rattle.laws.proofs.Passes.{on-test}
 use Rattle.forms.specs.Forms.{isLine}
-use Rattle.forms.specs.declared.records.Record.{Record}
+use Rattle.records.specs.declared.records.Record.{Record}
 use Rattle.values.specs.Values.{permitsRecord}
 use Rattle.writing.specs.Writing.{telegramOf}
 use Rattle.trips.proofs.Trips.{telegram-length, length-bounds}

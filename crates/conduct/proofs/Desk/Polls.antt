@@ -11,9 +11,9 @@ use borrow.Author.Tests.{leb-true, leb-false, eq-eqb, ne-eqb, eqb-true}
 use Rattle.laws.specs.Truth.{from}
 use Rattle.laws.proofs.Passes.{on-test, from-passes}
 use Rattle.forms.specs.Forms.{isLine, byMaster, forms, onLine, lookIn, formOf}
-use Rattle.forms.specs.Records.{typeOf}
-use Rattle.forms.specs.declared.records.Record.{Record}
-use Rattle.forms.specs.declared.records.Record.the-variants.{Approved}
+use Rattle.records.specs.Records.{typeOf}
+use Rattle.records.specs.declared.records.Record.{Record}
+use Rattle.records.specs.declared.records.Record.the-variants.{Approved}
 use Rattle.telegram.specs.Answers.{Answer, accepts, refuses}
 use Rattle.telegram.specs.Reading.{readingOf}
 use Rattle.writing.specs.Writing.{telegramOf}

@@ -5,7 +5,7 @@ use mathlib.Core.List.{List}
 use Prim.Native.Nat.{ℕ}
 use lib.Dec.{leb, ltb}
 use lib.ListN.{length}
-use Rattle.forms.specs.declared.records.Record.{Record}
+use Rattle.records.specs.declared.records.Record.{Record}
 use Rattle.telegram.specs.Answers.{Fault, good, fault}
 use Rattle.desk.specs.Answers.{Done, done, lost, refuses, turnsDown}
 use Rattle.desk.specs.State.{inRanges}

@@ -12,7 +12,7 @@ use borrow.Author.Tests.{leb-true, leb-false, eq-eqb}
 use Rattle.laws.specs.Truth.{from}
 use Rattle.laws.proofs.Truths.{clash, both-left}
 use Rattle.laws.proofs.Passes.{on-test}
-use Rattle.forms.specs.declared.records.Record.{Record}
+use Rattle.records.specs.declared.records.Record.{Record}
 use Rattle.telegram.specs.Answers.{Answer, accepts, refuses}
 use Rattle.telegram.specs.Reading.{readingOf}
 use Rattle.desk.specs.Answers.{repeated}

@@ -10,8 +10,8 @@ use borrow.Author.Tests.{ltb-true}
 use Rattle.laws.specs.Truth.{both}
 use Rattle.laws.proofs.Passes.{on-test}
 use Rattle.forms.specs.Forms.{dataType}
-use Rattle.forms.specs.Records.{typeOf}
-use Rattle.forms.specs.declared.records.Record.{Record}
+use Rattle.records.specs.Records.{typeOf}
+use Rattle.records.specs.declared.records.Record.{Record}
 use Rattle.values.specs.Values.{permitsRecord}
 use Rattle.telegram.specs.Answers.{Fault, good, fault}
 use Rattle.desk.specs.Answers.{Done, done, lost, refuses, Told, turnsDown, silent}

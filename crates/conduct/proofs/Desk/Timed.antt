@@ -6,7 +6,7 @@ use Prim.Native.Nat.{ℕ, _+_, _%_, _^_, _≤_, _<_}
 use native.Mathlib.Omega.{arith}
 use borrow.Author.Tests.{le-leb, lt-leb}
 use Rattle.link.specs.Clock.{elapsedOf, runOut}
-use Rattle.forms.specs.declared.records.Record.{Record}
+use Rattle.records.specs.declared.records.Record.{Record}
 use Rattle.telegram.specs.Answers.{accepts}
 use Rattle.telegram.specs.Reading.{readingOf}
 use Rattle.desk.specs.Answers.{done, lost}

@@ -7,7 +7,7 @@ use lib.ListN.{take, drop}
 use lib.Seq.{take-at, drop-at}
 use Rattle.laws.proofs.Truths.{clash}
 use Rattle.forms.specs.Forms.{isLine}
-use Rattle.forms.specs.declared.records.Record.{Record}
+use Rattle.records.specs.declared.records.Record.{Record}
 use Rattle.values.specs.Values.{permitsRecord, lengthOf}
 use Rattle.writing.specs.Writing.{telegramOf}
 use Rattle.trips.proofs.Trips.{telegram-length}

@@ -1,7 +1,7 @@
 -- `desk::state::may_reply` meets its contract. Assumes nothing.
 use Rattle.desk.specs.State.{mayReply}
 use lib.Dec.{eqb}
-use Rattle.forms.specs.Records.{typeOf}
+use Rattle.records.specs.Records.{typeOf}
 use Rattle.forms.specs.Forms.{dataType}
 use borrow.Author.Tests.{eq-eqb, ne-eqb}
 use mathlib.Core.Path.{_≡_, sym, _∙_}

@@ -1,6 +1,6 @@
 -- `desk::state::Desk::on_refused` meets its contract. Assumes nothing.
 use Rattle.desk.proofs.Rulings.{bad-sum, bad-sum-byte, bad-low, bad-high, bad-contents}
-use Rattle.forms.specs.Refusals.{numberOf, placeOf}
+use Rattle.records.specs.Refusals.{numberOf, placeOf}
 use native.Mathlib.Omega.{arith}
 use mathlib.Core.Path.{sym, _∙_}
 use borrow.Author.Needs.{needs}

@@ -1,7 +1,7 @@
--- `forms::records::values_of` meets its contract. Assumes nothing.
+-- `records::records::values_of` meets its contract. Assumes nothing.
 use borrow.Author.Needs.{needs}
-use Rattle.forms.proofs.records.values_of.Statement.{statement}
-use Rattle.forms.proofs.records.values_of.Tie as tie
+use Rattle.records.proofs.records.values_of.Statement.{statement}
+use Rattle.records.proofs.records.values_of.Tie as tie
 
 enum-known-rec : tie.Need-enum-known-rec
 enum-known-rec c = search needs

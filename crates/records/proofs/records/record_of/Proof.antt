@@ -1,9 +1,9 @@
--- `forms::records::record_of` meets its contract. Assumes nothing.
+-- `records::records::record_of` meets its contract. Assumes nothing.
 use borrow.Author.Tests.{ne-eqb}
-use Rattle.forms.specs.Records.{recordOf}
+use Rattle.records.specs.Records.{recordOf}
 use borrow.Author.Needs.{needs}
-use Rattle.forms.proofs.records.record_of.Statement.{statement}
-use Rattle.forms.proofs.records.record_of.Tie as tie
+use Rattle.records.proofs.records.record_of.Statement.{statement}
+use Rattle.records.proofs.records.record_of.Tie as tie
 
 array-read-t7 : tie.Need-array-read-t7
 array-read-t7 c = search needs

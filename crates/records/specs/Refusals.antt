@@ -1,7 +1,7 @@
 -- The paper's number and place of each refusal (01 'Numbered answers'). Assumes nothing.
 use Prim.Native.Nat.{ℕ}
-use Rattle.forms.specs.declared.refusals.Refusal.{Refusal}
-use Rattle.forms.specs.declared.refusals.Refusal.the-variants.{Short, Long, NoStart, Count, NoEnd, Checksum, Number, Kind, Character, Form, Value, NotSent, Range, NoRoom, State, Busy, Full}
+use Rattle.records.specs.declared.refusals.Refusal.{Refusal}
+use Rattle.records.specs.declared.refusals.Refusal.the-variants.{Short, Long, NoStart, Count, NoEnd, Checksum, Number, Kind, Character, Form, Value, NotSent, Range, NoRoom, State, Busy, Full}
 
 abbrev pub numberOf : Refusal → ℕ
 numberOf Short = 1

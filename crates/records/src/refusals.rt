@@ -1,6 +1,6 @@
 // The refusals (01 'Numbered answers'), a case each; a case holds its place where the paper does not fix it.
 ghost use mathlib.Core.Path.{_≡_};
-ghost use Rattle.forms.specs.Refusals.{numberOf, placeOf};
+ghost use Rattle.records.specs.Refusals.{numberOf, placeOf};
 
 pub enum Refusal {
     Short,

@@ -1,7 +1,7 @@
--- `forms::refusals::place_of` meets its contract. Assumes nothing.
+-- `records::refusals::place_of` meets its contract. Assumes nothing.
 use borrow.Author.Needs.{needs}
-use Rattle.forms.proofs.refusals.place_of.Statement.{statement}
-use Rattle.forms.proofs.refusals.place_of.Tie as tie
+use Rattle.records.proofs.refusals.place_of.Statement.{statement}
+use Rattle.records.proofs.refusals.place_of.Tie as tie
 
 enum-told : tie.Need-enum-told
 enum-told c = search needs

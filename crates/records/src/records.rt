@@ -1,7 +1,7 @@
 // The records (01 'Telegram forms'): a case for each telegram form, and a number for each value that it carries.
 // A number is wide enough that a wrong one can be written down.
 ghost use mathlib.Core.Path.{_≡_};
-ghost use Rattle.forms.specs.Records.{typeOf, valuesOf, recordOf, paired};
+ghost use Rattle.records.specs.Records.{typeOf, valuesOf, recordOf, paired};
 
 // The packets F D C M V P, which K, O and 1 share. V's two characters are left and right.
 pub struct Radio {
@@ -142,7 +142,7 @@ pub fn values_of(rec: Record) -> [u32; 10]
 
 // The six values that K, O and 1 begin with.
 fn radio_of(v: [u32; 10]) -> Radio
-    ensures { λ r. ⌜ r ≡ Rattle.forms.specs.Records.radioOf v ⌝ }
+    ensures { λ r. ⌜ r ≡ Rattle.records.specs.Records.radioOf v ⌝ }
 {
     Radio {
         fc: v[0],

@@ -1,9 +1,9 @@
--- `forms::records::pair` meets its contract. Assumes nothing.
-use Rattle.forms.specs.Records.{paired}
+-- `records::records::pair` meets its contract. Assumes nothing.
+use Rattle.records.specs.Records.{paired}
 use Rattle.laws.proofs.Tests.{tests}
 use borrow.Author.Needs.{needs}
-use Rattle.forms.proofs.records.pair.Statement.{statement}
-use Rattle.forms.proofs.records.pair.Tie as tie
+use Rattle.records.proofs.records.pair.Statement.{statement}
+use Rattle.records.proofs.records.pair.Tie as tie
 
 mul-result : tie.Need-mul-result
 mul-result c = search needs
