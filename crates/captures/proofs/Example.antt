@@ -14,13 +14,13 @@ use Rattle.forms.specs.Forms.{forms, onLine, lookIn, formOf, dataIn, dataType, 
 use Rattle.records.specs.Records.{recordOf}
 use Rattle.packets.specs.Packets.{packetOf, leadOf, isDecimal, permits}
 use Rattle.values.specs.Values.{valueOf, permittedFrom, permitted}
-use Rattle.telegram.specs.Frame.{lf, cr, countText, summedOf, fieldOf, frameChecks}
-use Rattle.telegram.specs.Field.{outside, wrongLetter, badValue, valuesIn, misshapen, fieldChecks}
-use Rattle.telegram.specs.Reading.{recordIn, checks, readingOf}
+use Rattle.reading.specs.Frame.{lf, cr, countText, summedOf, fieldOf, frameChecks}
+use Rattle.reading.specs.Field.{outside, wrongLetter, badValue, valuesIn, misshapen, fieldChecks}
+use Rattle.reading.specs.Reading.{recordIn, checks, readingOf}
 use Rattle.turns.specs.Turns.{turnOf}
 use Rattle.cutting.specs.Search.{cutFrom, spanOf}
-use Rattle.lines.specs.Numbers.{countOn, digitCount, decimalText}
-use Rattle.lines.specs.Lines.{lineText}
+use Rattle.listings.specs.Numbers.{countOn, digitCount, decimalText}
+use Rattle.listings.specs.Lines.{lineText}
 use Rattle.captures.specs.Pieces.{spansOn, spansOf, lineAt, linesIn, linesOf, lineDigit, listingOf}
 
 -- a telegram, and a line of text

@@ -13,8 +13,8 @@ use Rattle.cutting.specs.declared.search.Span.{Span}
 use Rattle.cutting.specs.declared.search.Span.the-variants.{Found, Nothing}
 use Rattle.cutting.specs.Search.{spanOf}
 use Rattle.captures.specs.declared.pieces.Listed.{Listed}
-use Rattle.lines.specs.Numbers.{puts}
-use Rattle.lines.specs.Lines.{lineRoom}
+use Rattle.listings.specs.Numbers.{puts}
+use Rattle.listings.specs.Lines.{lineRoom}
 use Rattle.captures.specs.Pieces.{spanning, spansOf, wrapped, lineAt, linesIn, linesOf, stopped, listedIn, listPart}
 use Rattle.captures.proofs.Spans.{spans-step}
 use Rattle.captures.proofs.Whole.{lastEnd, nextOrdinal}

@@ -9,16 +9,16 @@ use native.Mathlib.Nat.{add-zero}
 use lib.ListN.{length, drop, take-append-drop, length-append, length-drop, drop-of-length-le}
 use lib.Seq.{take-all, drop-drop}
 use borrow.Rule.Slice.PartMut.{putMid, midOf}
-use Rattle.telegram.specs.Answers.{Outcome, wrote, refusesTo, answerOf, outcomeOf}
-use Rattle.telegram.specs.Reading.{readingOf}
-use Rattle.telegram.specs.declared.answers.Reading.{Reading}
-use Rattle.telegram.specs.declared.answers.Writing.{Writing}
+use Rattle.reading.specs.Answers.{Outcome, wrote, refusesTo, answerOf, outcomeOf}
+use Rattle.reading.specs.Reading.{readingOf}
+use Rattle.reading.specs.declared.answers.Reading.{Reading}
+use Rattle.reading.specs.declared.answers.Writing.{Writing}
 use Rattle.writing.specs.Writing.{Write}
 use Rattle.cutting.specs.declared.search.Span.{Span}
 use Rattle.cutting.specs.declared.search.Span.the-variants.{Found, Nothing}
 use Rattle.cutting.specs.Search.{spanOf, partOf}
-use Rattle.lines.specs.Numbers.{puts}
-use Rattle.lines.specs.Lines.{lineRoom, putting, linePut}
+use Rattle.listings.specs.Numbers.{puts}
+use Rattle.listings.specs.Lines.{lineRoom, putting, linePut}
 use Rattle.captures.specs.Pieces.{spansOf, wrapped, lineAt, stepFor, stepAt, stepOf, stopped, listedIn}
 use Rattle.captures.proofs.Spans.{found-within, spans-step}
 use Rattle.captures.specs.declared.pieces.Step as step

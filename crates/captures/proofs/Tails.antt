@@ -7,7 +7,7 @@ use native.Mathlib.Nat.{zero-add}
 use native.Mathlib.Numerals.{add-one}
 use lib.ListN.{length, take, drop, getD, set, length-take, length-drop}
 use lib.Seq.{paste, paste-suc, length-take-le, take-length, getD-take, getD-drop, getD-append-add}
-use Rattle.lines.specs.Numbers.{puts}
+use Rattle.listings.specs.Numbers.{puts}
 use Rattle.captures.specs.Pieces.{tailOf, tailPut}
 
 module _ (place end : ℕ) (s : List ℕ) where

@@ -8,15 +8,15 @@ use lib.ListN.{length, take, drop}
 use Rattle.laws.specs.Truth.{from}
 use Rattle.laws.specs.Text.{codes}
 use Rattle.forms.specs.Forms.{isLine}
-use Rattle.telegram.specs.Answers.{Outcome, wrote, refusesTo}
-use Rattle.telegram.specs.Frame.{lf}
-use Rattle.telegram.specs.Reading.{readingOf}
+use Rattle.reading.specs.Answers.{Outcome, wrote, refusesTo}
+use Rattle.reading.specs.Frame.{lf}
+use Rattle.reading.specs.Reading.{readingOf}
 use Rattle.cutting.specs.declared.search.Span.{Span}
 use Rattle.cutting.specs.declared.search.Span.the-variants.{Found, Nothing}
 use Rattle.cutting.specs.Search.{spanOf, partOf}
 use Rattle.captures.specs.declared.pieces.Listed.{Listed}
-use Rattle.lines.specs.Numbers.{puts}
-use Rattle.lines.specs.Lines.{lineText, lineRoom, putting}
+use Rattle.listings.specs.Numbers.{puts}
+use Rattle.listings.specs.Lines.{lineText, lineRoom, putting}
 use Rattle.captures.specs.declared.pieces.Step as step
 
 -- what a search finds, before what later searches find from its end on

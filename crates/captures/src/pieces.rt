@@ -7,9 +7,9 @@ use characters::slices::part;
 use cutting::search::Span;
 use cutting::search::part_of;
 use cutting::search::span_of;
-use lines::lines::put_line;
-use telegram::answers::Writing;
-use telegram::reading::read;
+use listings::lines::put_line;
+use reading::answers::Writing;
+use reading::reading::read;
 
 // The line that a capture's first byte names, 0 where it names none.
 pub fn line_of(digit: u8) -> u8

@@ -8,7 +8,7 @@ use records::records::values_of;
 use records::refusals::Refusal;
 use records::refusals::number_of;
 use records::refusals::place_of;
-use telegram::answers::Reading;
+use reading::answers::Reading;
 
 pub(crate) fn say(text: &[u8]) {
     io::write_all(STDOUT_FILENO, text);

@@ -10,8 +10,8 @@ use characters::slices::byte_at;
 use characters::slices::part;
 use records::records::Record;
 use records::records::record_of;
-use telegram::answers::Writing;
-use telegram::reading::read;
+use reading::answers::Writing;
+use reading::reading::read;
 use writing::writing::write;
 
 fn byte(text: &[u8]) -> u8 {

@@ -7,7 +7,7 @@ use native.Mathlib.Omega.{arith}
 use lib.ListN.{length, drop, getD, length-drop}
 use lib.Seq.{length-take-le}
 use Rattle.laws.proofs.Passes.{order}
-use Rattle.telegram.specs.Frame.{lf, cr}
+use Rattle.reading.specs.Frame.{lf, cr}
 use Rattle.turns.specs.declared.turns.Turn.{Turn}
 use Rattle.cutting.specs.declared.search.Span.{Span}
 use Rattle.cutting.specs.declared.search.Span.the-variants.{Found, Nothing}

@@ -6,7 +6,7 @@ use Prim.Native.Nat.{ℕ, _+_, _-_, _≤_, _<_}
 use native.Mathlib.Omega.{arith}
 use lib.ListN.{length, getD}
 use Rattle.laws.proofs.Passes.{order}
-use Rattle.telegram.specs.Frame.{lf, cr}
+use Rattle.reading.specs.Frame.{lf, cr}
 
 -- a byte that is neither LF nor CR
 abbrev pub Plain : ℕ → Type 0

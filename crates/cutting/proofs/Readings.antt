@@ -4,9 +4,9 @@ use mathlib.Core.Bool.{true, false}
 use mathlib.Core.List.{List}
 use Prim.Native.Nat.{ℕ}
 use Rattle.forms.specs.Forms.{isLine}
-use Rattle.telegram.specs.declared.answers.Reading.{Reading}
-use Rattle.telegram.specs.Answers.{answerOf}
-use Rattle.telegram.specs.Reading.{readingOf}
+use Rattle.reading.specs.declared.answers.Reading.{Reading}
+use Rattle.reading.specs.Answers.{answerOf}
+use Rattle.reading.specs.Reading.{readingOf}
 use Rattle.cutting.specs.declared.search.Span.the-variants.{Found, Nothing}
 use Rattle.cutting.specs.Search.{spanOf, partOf, none, reads, refuses, nextOf}
 

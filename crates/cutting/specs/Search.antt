@@ -5,8 +5,8 @@ use mathlib.Core.List.{List, [], _∷_}
 use lib.ListN.{length, take, drop}
 use Rattle.records.specs.Refusals.{numberOf, placeOf}
 use Rattle.forms.specs.Forms.{isLine}
-use Rattle.telegram.specs.Answers.{Answer, answerOf}
-use Rattle.telegram.specs.Reading.{readingOf}
+use Rattle.reading.specs.Answers.{Answer, answerOf}
+use Rattle.reading.specs.Reading.{readingOf}
 use Rattle.turns.specs.declared.turns.Turn.{Turn}
 use Rattle.turns.specs.declared.turns.Turn.the-variants.{Joins, Ends, Drops}
 use Rattle.cutting.specs.declared.search.Span.{Span}

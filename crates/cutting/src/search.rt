@@ -5,8 +5,8 @@ use characters::slices::less;
 use characters::slices::part;
 use forms::table::is_line;
 use records::refusals::Refusal;
-use telegram::answers::Reading;
-use telegram::reading::read;
+use reading::answers::Reading;
+use reading::reading::read;
 use turns::turns::Turn;
 use turns::turns::turn_of;
 

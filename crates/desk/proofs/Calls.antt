@@ -8,7 +8,7 @@ use Rattle.forms.specs.Forms.{dataType}
 use Rattle.records.specs.Records.{typeOf}
 use Rattle.records.specs.declared.records.Record.{Record}
 use Rattle.values.specs.Values.{permitsRecord}
-use Rattle.telegram.specs.Answers.{good, fault}
+use Rattle.reading.specs.Answers.{good, fault}
 use Rattle.desk.specs.Answers.{done, lost, refuses}
 use Rattle.desk.specs.State.{isKey, inRanges}
 use Rattle.desk.specs.Panel.{losesLine, notedOf, withQueued, withRequested, withKey, recordFault, keyFault, tickOf, queueOf, setOf, keyOf}

@@ -14,15 +14,15 @@ use Rattle.laws.proofs.Truths.{clash}
 use Rattle.laws.proofs.Passes.{on-test, oneOf-passes, from-bounds}
 use Rattle.forms.specs.Forms.{isLine}
 use Rattle.records.specs.declared.records.Record.{Record}
-use Rattle.telegram.specs.Answers.{Answer, accepts, refuses, Fault, good, fault, firstFault, unless}
-use Rattle.telegram.specs.Frame.{frameChecks}
-use Rattle.telegram.specs.Field.{fieldChecks}
-use Rattle.telegram.specs.Reading.{recordIn, checks, readingOf}
-use Rattle.telegram.specs.declared.answers.Spot.{Spot}
-use Rattle.telegram.specs.declared.answers.Spot.the-variants.{Nowhere, At}
-use Rattle.trips.proofs.Faults.{good-faultless}
-use Rattle.trips.proofs.Frames.{faultless-framed}
-use Rattle.trips.proofs.Trips.{read-permitted}
+use Rattle.reading.specs.Answers.{Answer, accepts, refuses, Fault, good, fault, firstFault, unless}
+use Rattle.reading.specs.Frame.{frameChecks}
+use Rattle.reading.specs.Field.{fieldChecks}
+use Rattle.reading.specs.Reading.{recordIn, checks, readingOf}
+use Rattle.reading.specs.declared.answers.Spot.{Spot}
+use Rattle.reading.specs.declared.answers.Spot.the-variants.{Nowhere, At}
+use Rattle.roundtrips.proofs.Faults.{good-faultless}
+use Rattle.roundtrips.proofs.Frames.{faultless-framed}
+use Rattle.roundtrips.proofs.Trips.{read-permitted}
 use Rattle.desk.specs.Rules.{What, misread, isNumber, repeats, matterIn, goodFrame, badFrame, ruledBy, rulingIn, numberIn}
 use Rattle.desk.specs.declared.state.Desk.{Desk}
 

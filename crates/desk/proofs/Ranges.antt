@@ -10,7 +10,7 @@ use Rattle.laws.specs.Truth.{from, every}
 use Rattle.laws.proofs.Truths.{both-left, both-right, both-true}
 use Rattle.laws.proofs.Passes.{both-off, on-test, on-cond, from-bounds}
 use Rattle.forms.specs.Forms.{isLine}
-use Rattle.link.specs.Counters.{inRange}
+use Rattle.clock.specs.Counters.{inRange}
 use Rattle.desk.specs.declared.state.Desk.{Desk}
 use Rattle.desk.specs.Panel.{notedOf}
 use Rattle.desk.specs.State.{slotFits, keyFits, keptFits, wantedFits, numbersFit, recordsFit, inRanges}

@@ -9,9 +9,9 @@ use borrow.Author.Tests.{eq-eqb, ne-eqb, le-ltb, lt-ltb}
 use Rattle.forms.specs.Forms.{byMaster}
 use Rattle.records.specs.Records.{typeOf}
 use Rattle.records.specs.declared.records.Record.{Record}
-use Rattle.telegram.specs.Answers.{accepts, refuses}
-use Rattle.telegram.specs.Reading.{readingOf}
-use Rattle.link.specs.Counters.{sameNumber}
+use Rattle.reading.specs.Answers.{accepts, refuses}
+use Rattle.reading.specs.Reading.{readingOf}
+use Rattle.clock.specs.Counters.{sameNumber}
 use Rattle.desk.specs.Rules.{What, strange, request, poll, other, misread, quiet, wrongSum, again, handles, isNumber, repeats, matterIn, goodFrame, badFrame, rulingIn}
 use Rattle.desk.specs.declared.state.Desk.{Desk}
 

@@ -10,12 +10,12 @@ use Rattle.records.specs.declared.records.Record.{Record}
 use Rattle.records.specs.declared.records.Record.the-variants.{Rejected}
 use Rattle.values.specs.Values.{permitsRecord, lengthOf}
 use Rattle.records.specs.Refusals.{numberOf, placeOf}
-use Rattle.telegram.specs.Answers.{Outcome, wrote, refusesTo, outcomeOf}
+use Rattle.reading.specs.Answers.{Outcome, wrote, refusesTo, outcomeOf}
 use Rattle.writing.specs.Writing.{Write, telegramOf, writingOf}
-use Rattle.telegram.specs.declared.answers.Writing.{Writing}
-use Rattle.telegram.specs.declared.answers.Writing.the-variants.{Written, Refused}
+use Rattle.reading.specs.declared.answers.Writing.{Writing}
+use Rattle.reading.specs.declared.answers.Writing.the-variants.{Written, Refused}
 use Rattle.records.specs.declared.refusals.Refusal.{Refusal}
-use Rattle.trips.proofs.Trips.{telegram-length, length-bounds, output}
+use Rattle.roundtrips.proofs.Trips.{telegram-length, length-bounds, output}
 use borrow.Author.Tests.{lt-leb, le-leb}
 use Rattle.desk.specs.State.{inRanges}
 use Rattle.desk.specs.Panel.{losesLine, notedOf}

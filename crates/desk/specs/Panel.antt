@@ -9,8 +9,8 @@ use Rattle.forms.specs.Forms.{dataType}
 use Rattle.records.specs.Records.{typeOf}
 use Rattle.records.specs.declared.records.Record.{Record}
 use Rattle.values.specs.Values.{permitsRecord}
-use Rattle.link.specs.Clock.{runOut}
-use Rattle.telegram.specs.Answers.{Fault, good, fault}
+use Rattle.clock.specs.Clock.{runOut}
+use Rattle.reading.specs.Answers.{Fault, good, fault}
 use Rattle.desk.specs.Answers.{Done, done, lost, refuses}
 use Rattle.desk.specs.State.{isKey, inRanges}
 use Rattle.desk.specs.declared.state.Slot.{Slot}

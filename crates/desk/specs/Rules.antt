@@ -11,9 +11,9 @@ use Rattle.forms.specs.Forms.{byMaster}
 use Rattle.records.specs.Records.{typeOf}
 use Rattle.records.specs.Refusals.{numberOf, placeOf}
 use Rattle.records.specs.declared.records.Record.{Record}
-use Rattle.telegram.specs.Answers.{Answer, accepts, refuses}
-use Rattle.telegram.specs.Reading.{readingOf}
-use Rattle.link.specs.Counters.{sameNumber}
+use Rattle.reading.specs.Answers.{Answer, accepts, refuses}
+use Rattle.reading.specs.Reading.{readingOf}
+use Rattle.clock.specs.Counters.{sameNumber}
 use Rattle.desk.specs.declared.state.Desk.{Desk}
 use Rattle.desk.specs.declared.deciding.Matter as m
 use Rattle.desk.specs.declared.deciding.Rule as r

@@ -11,7 +11,7 @@ use Rattle.records.specs.Records.{typeOf}
 use Rattle.records.specs.declared.records.Record.{Record}
 use Rattle.records.specs.declared.records.Record.the-variants.{Approved}
 use Rattle.values.specs.Values.{permitsRecord}
-use Rattle.link.specs.Counters.{inRange}
+use Rattle.clock.specs.Counters.{inRange}
 use Rattle.desk.specs.Answers.{Done, done, refuses}
 use Rattle.desk.specs.declared.state.Slot.{Slot}
 use Rattle.desk.specs.declared.state.Wanted.{Wanted}

@@ -15,9 +15,9 @@ use crate::answers::Heard;
 use crate::deciding::Matter;
 use crate::deciding::Rule;
 use crate::state::Desk;
-use link::counters::LastTaken;
+use clock::counters::LastTaken;
 use records::records::Record;
-use telegram::answers::Writing;
+use reading::answers::Writing;
 use writing::writing::write;
 
 // The state behind a hearing, beside its answer.

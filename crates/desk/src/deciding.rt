@@ -10,8 +10,8 @@ use records::records::Record;
 use records::records::type_of;
 use records::refusals::Refusal;
 use records::refusals::number_of;
-use telegram::answers::Reading;
-use telegram::reading::read;
+use reading::answers::Reading;
+use reading::reading::read;
 
 // What a handled telegram is.
 pub enum Matter {

@@ -1,7 +1,7 @@
 // The desk's calls that hear nothing (01 'Link rules', 'Desk'): the clock's tick, and what the panel queues, sets and turns.
 ghost use mathlib.Core.Path.{_≡_};
 ghost use Prim.Native.Nat.{_<_};
-ghost use Rattle.telegram.specs.Answers.{faultOf};
+ghost use Rattle.reading.specs.Answers.{faultOf};
 ghost use Rattle.desk.specs.Answers.{outcomeOf};
 ghost use Rattle.desk.specs.Panel.{losesLine, notedOf, withQueued, withRequested, withKey, recordFault, keyFault, tickOf, queueOf, setOf, keyOf};
 use crate::answers::Outcome;
@@ -11,11 +11,11 @@ use crate::state::Step;
 use crate::state::Wanted;
 use crate::state::is_key;
 use forms::table::data_type;
-use link::clock::run_out;
+use clock::clock::run_out;
 use records::records::Record;
 use records::records::type_of;
 use records::refusals::Refusal;
-use telegram::answers::Check;
+use reading::answers::Check;
 use values::values::permits_record;
 
 // T1's limit, in milliseconds.

@@ -8,7 +8,7 @@ ghost use Rattle.desk.specs.State.{mayReply, slotFits, isKey, keyFits, k
 use crate::answers::Outcome;
 use forms::table::data_type;
 use forms::table::is_line;
-use link::counters::LastTaken;
+use clock::counters::LastTaken;
 use records::records::Record;
 use records::records::type_of;
 use records::refusals::Refusal;

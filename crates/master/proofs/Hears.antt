@@ -10,12 +10,12 @@ use Rattle.records.specs.Refusals.{numberOf, placeOf}
 use Rattle.records.specs.Records.{typeOf}
 use Rattle.records.specs.declared.records.Record.{Record}
 use Rattle.records.specs.declared.refusals.Refusal.{Refusal}
-use Rattle.telegram.specs.Answers.{Answer, answerOf, accepts, good, fault, firstFault}
-use Rattle.telegram.specs.Frame.{frameChecks}
-use Rattle.telegram.specs.Reading.{readingOf}
-use Rattle.telegram.specs.declared.answers.Reading.{Reading}
-use Rattle.telegram.specs.declared.answers.Reading.the-variants.{Refused}
-use Rattle.link.specs.Clock.{runOut}
+use Rattle.reading.specs.Answers.{Answer, answerOf, accepts, good, fault, firstFault}
+use Rattle.reading.specs.Frame.{frameChecks}
+use Rattle.reading.specs.Reading.{readingOf}
+use Rattle.reading.specs.declared.answers.Reading.{Reading}
+use Rattle.reading.specs.declared.answers.Reading.the-variants.{Refused}
+use Rattle.clock.specs.Clock.{runOut}
 use Rattle.master.specs.declared.state.Master.{Master}
 use Rattle.master.specs.declared.state.Step.{Step}
 use Rattle.master.specs.declared.answers.Cause.the-variants.{Rejected}

@@ -15,8 +15,8 @@ use Rattle.characters.specs.Characters.{inSet}
 use Rattle.records.specs.declared.records.Record.{Record}
 use Rattle.packets.specs.Packets.{packetOf, leadOf, isDecimal, permits}
 use Rattle.values.specs.Values.{permitsRecord, textOf, bodyOf, permittedFrom, permitted, permitsValue, permitsValues}
-use Rattle.telegram.specs.Answers.{good, fault}
-use Rattle.link.specs.Counters.{inRange}
+use Rattle.reading.specs.Answers.{good, fault}
+use Rattle.clock.specs.Counters.{inRange}
 use Rattle.master.specs.declared.state.Master.{Master}
 use Rattle.master.specs.Answers.{refuses, nothing}
 use Rattle.master.specs.State.{isFree, sendable, inRanges, callFault, withLine, started, blank, startOf}

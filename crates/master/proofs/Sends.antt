@@ -12,12 +12,12 @@ use Rattle.records.specs.Records.{typeOf}
 use Rattle.records.specs.declared.records.Record.{Record}
 use Rattle.records.specs.declared.refusals.Refusal.{Refusal}
 use Rattle.values.specs.Values.{permitsRecord, lengthOf}
-use Rattle.telegram.specs.Answers.{good, fault, Outcome, wrote, refusesTo, outcomeOf}
+use Rattle.reading.specs.Answers.{good, fault, Outcome, wrote, refusesTo, outcomeOf}
 use Rattle.writing.specs.Writing.{telegramOf, writingOf}
-use Rattle.telegram.specs.declared.answers.Writing.{Writing}
-use Rattle.telegram.specs.declared.answers.Writing.the-variants.{Written, Refused}
-use Rattle.trips.proofs.Trips.{output, length-bounds}
-use Rattle.link.specs.Clock.{runOut}
+use Rattle.reading.specs.declared.answers.Writing.{Writing}
+use Rattle.reading.specs.declared.answers.Writing.the-variants.{Written, Refused}
+use Rattle.roundtrips.proofs.Trips.{output, length-bounds}
+use Rattle.clock.specs.Clock.{runOut}
 use Rattle.master.specs.declared.state.Master.{Master}
 use Rattle.master.specs.declared.state.Step.{Step}
 use Rattle.master.specs.declared.answers.Sending.{Sending}

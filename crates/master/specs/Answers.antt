@@ -2,7 +2,7 @@
 use Prim.Native.Nat.{ℕ}
 use Rattle.records.specs.Refusals.{numberOf, placeOf}
 use Rattle.records.specs.declared.records.Record.{Record}
-use Rattle.telegram.specs.Answers.{Answer, answerOf}
+use Rattle.reading.specs.Answers.{Answer, answerOf}
 use Rattle.master.specs.declared.answers.Sending.{Sending}
 use Rattle.master.specs.declared.answers.Cause.{Cause}
 use Rattle.master.specs.declared.answers.Reason as r

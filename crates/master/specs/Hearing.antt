@@ -7,10 +7,10 @@ use lib.Dec.{eqb}
 use lib.ListN.{length, getD}
 use Rattle.records.specs.Records.{typeOf}
 use Rattle.records.specs.declared.records.Record.{Record}
-use Rattle.telegram.specs.Answers.{Answer, accepts, refuses, Fault, good, fault, firstFault}
-use Rattle.telegram.specs.Frame.{frameChecks}
-use Rattle.telegram.specs.Reading.{readingOf}
-use Rattle.link.specs.Clock.{runOut}
+use Rattle.reading.specs.Answers.{Answer, accepts, refuses, Fault, good, fault, firstFault}
+use Rattle.reading.specs.Frame.{frameChecks}
+use Rattle.reading.specs.Reading.{readingOf}
+use Rattle.clock.specs.Clock.{runOut}
 use Rattle.master.specs.declared.state.Master.{Master}
 use Rattle.master.specs.declared.answers.Cause.the-variants.{Rejected}
 use Rattle.master.specs.State.{isFree, callFault, withLine, answeredState}

@@ -8,9 +8,9 @@ use Rattle.forms.specs.Forms.{byMaster}
 use Rattle.records.specs.Records.{typeOf}
 use Rattle.records.specs.declared.records.Record.{Record}
 use Rattle.values.specs.Values.{permitsRecord, lengthOf}
-use Rattle.telegram.specs.Answers.{Fault, good, fault}
+use Rattle.reading.specs.Answers.{Fault, good, fault}
 use Rattle.writing.specs.Writing.{telegramOf}
-use Rattle.link.specs.Clock.{runOut}
+use Rattle.clock.specs.Clock.{runOut}
 use Rattle.master.specs.declared.state.Master.{Master}
 use Rattle.master.specs.declared.answers.Sending.{Sending}
 use Rattle.master.specs.declared.answers.Sending.the-variants.{Offered, Again, Poll}

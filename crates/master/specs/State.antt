@@ -9,9 +9,9 @@ use Rattle.records.specs.Records.{typeOf}
 use Rattle.records.specs.declared.records.Record.{Record}
 use Rattle.records.specs.declared.records.Record.the-variants.{Idling}
 use Rattle.values.specs.Values.{permitsRecord}
-use Rattle.telegram.specs.Answers.{Fault, good, fault}
-use Rattle.link.specs.Counters.{inRange, changedOf}
-use Rattle.link.specs.declared.counters.ToSend.{ToSend}
+use Rattle.reading.specs.Answers.{Fault, good, fault}
+use Rattle.clock.specs.Counters.{inRange, changedOf}
+use Rattle.clock.specs.declared.counters.ToSend.{ToSend}
 use Rattle.master.specs.declared.state.Master.{Master}
 use Rattle.master.specs.Answers.{Told, refuses, nothing}
 

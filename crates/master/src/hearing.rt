@@ -3,7 +3,7 @@ ghost use mathlib.Core.Path.{_≡_};
 ghost use mathlib.Core.Bool.{true, false};
 ghost use Prim.Native.Nat.{_≤_, _<_};
 ghost use lib.ListN.{length};
-ghost use Rattle.telegram.specs.Answers.{answerOf};
+ghost use Rattle.reading.specs.Answers.{answerOf};
 ghost use Rattle.master.specs.Answers.{toldOf};
 ghost use Rattle.master.specs.State.{isFree, inRanges};
 ghost use Rattle.master.specs.Hearing.{strangeOf, judgedOf, takenOf, frameOf, hearOf};
@@ -16,13 +16,13 @@ use crate::rules::permitted_answer;
 use crate::state::Master;
 use crate::state::Step;
 use characters::slices::byte_at;
-use link::clock::run_out;
+use clock::clock::run_out;
 use records::records::Record;
 use records::records::type_of;
-use telegram::answers::Check;
-use telegram::answers::Reading;
-use telegram::frame::frame_check;
-use telegram::reading::read;
+use reading::answers::Check;
+use reading::answers::Reading;
+use reading::frame::frame_check;
+use reading::reading::read;
 
 impl Master {
     // An ignored hearing gives the same state.

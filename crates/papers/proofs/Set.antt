@@ -6,7 +6,7 @@ use Rattle.characters.specs.Characters.{inSet}
 use Rattle.forms.specs.Forms.{isLine}
 use Rattle.characters.proofs.Codes.{high}
 use Rattle.packets.specs.Packets.{permits}
-use Rattle.trips.proofs.Bytes.{permits-set}
+use Rattle.roundtrips.proofs.Bytes.{permits-set}
 
 -- the set is kept as a table of 128 entries: there is none behind it
 pub none-from-128 : (b : ℕ) → 128 ≤ b → inSet b ≡ false

@@ -6,10 +6,10 @@ use lib.Dec.{eqb}
 use Rattle.records.specs.Refusals.{numberOf, placeOf}
 use Rattle.records.specs.declared.refusals.Refusal.{Refusal}
 use Rattle.records.specs.declared.refusals.Refusal.the-variants.{Short, Long, NoStart, Count, NoEnd, Checksum, Number, Kind, Character, Form, Value, NotSent, Range, NoRoom, State, Busy, Full}
-use Rattle.telegram.specs.Answers.{answerOf, outcomeOf, faultOf}
-use Rattle.telegram.specs.declared.answers.Reading as r
-use Rattle.telegram.specs.declared.answers.Writing as w
-use Rattle.telegram.specs.declared.answers.Check as c
+use Rattle.reading.specs.Answers.{answerOf, outcomeOf, faultOf}
+use Rattle.reading.specs.declared.answers.Reading as r
+use Rattle.reading.specs.declared.answers.Writing as w
+use Rattle.reading.specs.declared.answers.Check as c
 
 -- the refusal of a number and place
 abbrev pub refusalOf : ℕ → ℕ → Refusal

@@ -14,10 +14,10 @@ use Rattle.packets.specs.Packets.{packetOf, leadOf, isDecimal, permits}
 use Rattle.values.specs.Values.{valueOf, permittedFrom, permitted}
 use Rattle.records.specs.Records.{recordOf}
 use Rattle.records.specs.declared.records.Record.the-variants.{Approved, Rejected, Request, Idling, Stop, Train, TrainData}
-use Rattle.telegram.specs.Answers.{Answer, accepts, refuses}
-use Rattle.telegram.specs.Frame.{lf, cr, countText, summedOf, fieldOf, frameChecks}
-use Rattle.telegram.specs.Field.{outside, wrongLetter, badValue, valuesIn, misshapen, fieldChecks}
-use Rattle.telegram.specs.Reading.{recordIn, checks, readingOf}
+use Rattle.reading.specs.Answers.{Answer, accepts, refuses}
+use Rattle.reading.specs.Frame.{lf, cr, countText, summedOf, fieldOf, frameChecks}
+use Rattle.reading.specs.Field.{outside, wrongLetter, badValue, valuesIn, misshapen, fieldChecks}
+use Rattle.reading.specs.Reading.{recordIn, checks, readingOf}
 
 -- a case: bytes on a line and what they read as, or bytes and their checksum
 pub data Case : Type 0 where

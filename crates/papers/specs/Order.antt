@@ -16,16 +16,16 @@ use Rattle.forms.specs.Forms.{forms, onLine, isLine, lookIn, formOf, slotsIn, c
 use Rattle.packets.specs.Packets.{packetOf, permits}
 use Rattle.values.specs.Values.{permittedFrom, permitted}
 use Rattle.records.specs.declared.records.Record.{Record}
-use Rattle.telegram.specs.declared.answers.Spot.{Spot}
-use Rattle.telegram.specs.declared.answers.Spot.the-variants.{Nowhere, At}
-use Rattle.telegram.specs.Answers.{accepts, refuses, Fault, good, fault, firstFault, unless}
-use Rattle.telegram.specs.Frame.{lf, cr, countText, summedOf, fieldOf, frameChecks}
-use Rattle.telegram.specs.Field.{outside, wrongLetter, badValue, misshapen, fieldChecks}
-use Rattle.telegram.specs.Reading.{checks, readingOf}
-use Rattle.trips.proofs.Faults.{faultless-at}
-use Rattle.trips.proofs.Checks.{accepted-only}
+use Rattle.reading.specs.declared.answers.Spot.{Spot}
+use Rattle.reading.specs.declared.answers.Spot.the-variants.{Nowhere, At}
+use Rattle.reading.specs.Answers.{accepts, refuses, Fault, good, fault, firstFault, unless}
+use Rattle.reading.specs.Frame.{lf, cr, countText, summedOf, fieldOf, frameChecks}
+use Rattle.reading.specs.Field.{outside, wrongLetter, badValue, misshapen, fieldChecks}
+use Rattle.reading.specs.Reading.{checks, readingOf}
+use Rattle.roundtrips.proofs.Faults.{faultless-at}
+use Rattle.roundtrips.proofs.Checks.{accepted-only}
 use Rattle.papers.specs.Cases.{framed}
-use Rattle.telegram.proofs.Contents as contents
+use Rattle.reading.proofs.Contents as contents
 
 -- bytes on a line, the number of their refusal and its place
 pub record Refused : Type 0 where

@@ -10,11 +10,11 @@ use lib.ListN.{length, getD}
 use borrow.Author.Tests.{ltb-true, ltb-false, lt-ltb, le-ltb}
 use Rattle.characters.specs.Checksum.{total, checksumOf, hexOf, checkText}
 use Rattle.records.specs.declared.records.Record.{Record}
-use Rattle.telegram.specs.Answers.{accepts}
-use Rattle.telegram.specs.Frame.{summedOf, isTwo}
-use Rattle.telegram.specs.Reading.{readingOf}
-use Rattle.trips.proofs.Frames.{two-are}
-use Rattle.trips.proofs.Checks.{accepted-only}
+use Rattle.reading.specs.Answers.{accepts}
+use Rattle.reading.specs.Frame.{summedOf, isTwo}
+use Rattle.reading.specs.Reading.{readingOf}
+use Rattle.roundtrips.proofs.Frames.{two-are}
+use Rattle.roundtrips.proofs.Checks.{accepted-only}
 
 -- the sum of any bytes with their checksum is 0 modulo 256
 pub sums-to-zero : (s : List ℕ) → (total s + checksumOf s) % 256 ≡ 0

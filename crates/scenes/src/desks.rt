@@ -12,7 +12,7 @@ use desk::state::Desk;
 use desk::state::Slot;
 use desk::state::Step;
 use desk::state::Wanted;
-use link::counters::LastTaken;
+use clock::counters::LastTaken;
 use records::refusals::Refusal;
 
 // The state: line, last number taken, queued records.

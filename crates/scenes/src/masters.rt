@@ -4,7 +4,7 @@ use crate::rows::Call;
 use crate::show;
 use crate::words;
 use characters::slices::part;
-use link::counters::ToSend;
+use clock::counters::ToSend;
 use master::answers::Answer;
 use master::answers::Cause;
 use master::answers::Reason;
@@ -12,7 +12,7 @@ use master::answers::Sending;
 use master::state::Master;
 use master::state::Step;
 use records::records::Record;
-use telegram::answers::Reading;
+use reading::answers::Reading;
 
 // The state: line, number to send, sendings made.
 fn state(m: Master) {

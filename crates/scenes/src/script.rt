@@ -9,7 +9,7 @@ use characters::slices::byte_at;
 use characters::slices::part;
 use desk::state::Desk;
 use libc::STDIN_FILENO;
-use link::clock::elapsed;
+use clock::clock::elapsed;
 use master::state::Master;
 
 // The two ends, and how much of a row has been read.

@@ -13,9 +13,9 @@ use Rattle.records.specs.Records.{typeOf, valuesOf}
 use Rattle.values.specs.Values.{permitsRecord, lengthOf}
 use Rattle.records.specs.declared.records.Record.{Record}
 use Rattle.forms.specs.declared.table.Looked.{Looked}
-use Rattle.telegram.specs.Answers.{wrote, refusesTo}
-use Rattle.telegram.specs.Frame.{frameOf}
-use Rattle.telegram.specs.Field.{dataOf}
+use Rattle.reading.specs.Answers.{wrote, refusesTo}
+use Rattle.reading.specs.Frame.{frameOf}
+use Rattle.reading.specs.Field.{dataOf}
 use Rattle.writing.specs.Writing.{Write, telegramOf, writingOf}
 
 small : {n : ℕ} → n ≤ 1 → n < 2

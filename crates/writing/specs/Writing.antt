@@ -9,9 +9,9 @@ use Rattle.forms.specs.Forms.{slotsOf, formOf, isLine}
 use Rattle.records.specs.Records.{typeOf, valuesOf}
 use Rattle.values.specs.Values.{permitsRecord, lengthOf}
 use Rattle.records.specs.declared.records.Record.{Record}
-use Rattle.telegram.specs.Answers.{Outcome, wrote, refusesTo}
-use Rattle.telegram.specs.Frame.{frameOf}
-use Rattle.telegram.specs.Field.{dataOf}
+use Rattle.reading.specs.Answers.{Outcome, wrote, refusesTo}
+use Rattle.reading.specs.Frame.{frameOf}
+use Rattle.reading.specs.Field.{dataOf}
 
 -- the telegram of a record with its number on a line
 unfoldable pub telegramOf : ℕ → Record → ℕ → List ℕ

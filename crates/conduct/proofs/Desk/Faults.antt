@@ -10,10 +10,10 @@ use lib.ListN.{length, getD, drop}
 use Rattle.laws.proofs.Passes.{on-test}
 use borrow.Author.Tests.{eqb-true, eqb-false}
 use Rattle.records.specs.declared.records.Record.the-variants.{Rejected}
-use Rattle.telegram.specs.Answers.{accepts, refuses}
-use Rattle.telegram.specs.Reading.{readingOf}
+use Rattle.reading.specs.Answers.{accepts, refuses}
+use Rattle.reading.specs.Reading.{readingOf}
 use Rattle.writing.specs.Writing.{telegramOf}
-use Rattle.trips.proofs.Trips.{written-reads}
+use Rattle.roundtrips.proofs.Trips.{written-reads}
 use Rattle.desk.specs.Answers.{silent, faulted}
 use Rattle.desk.specs.Panel.{losesLine}
 use Rattle.desk.specs.Rules.{Ruling, quiet, wrongSum, isNumber, badFrame, rulingIn}

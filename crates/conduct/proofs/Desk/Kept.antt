@@ -12,7 +12,7 @@ use Rattle.forms.specs.Forms.{isLine}
 use Rattle.records.specs.declared.records.Record.{Record}
 use Rattle.values.specs.Values.{permitsRecord}
 use Rattle.writing.specs.Writing.{telegramOf}
-use Rattle.trips.proofs.Trips.{telegram-length, length-bounds}
+use Rattle.roundtrips.proofs.Trips.{telegram-length, length-bounds}
 use Rattle.desk.specs.Answers.{done, lost, refuses, turnsDown, silent, faulted, repeated}
 use Rattle.desk.specs.Answers as h
 use Rattle.desk.specs.State.{mayReply, slotFits, keyFits, keptFits, wantedFits, numbersFit, recordsFit, inRanges, fresh, startOf}

@@ -12,10 +12,10 @@ use Rattle.laws.proofs.Passes.{on-test}
 use Rattle.forms.specs.Forms.{isLine}
 use Rattle.records.specs.declared.records.Record.{Record}
 use Rattle.values.specs.Values.{permitsRecord}
-use Rattle.telegram.specs.Answers as w
-use Rattle.telegram.specs.Reading.{readingOf}
+use Rattle.reading.specs.Answers as w
+use Rattle.reading.specs.Reading.{readingOf}
 use Rattle.writing.specs.Writing.{telegramOf}
-use Rattle.trips.proofs.Trips.{written-reads}
+use Rattle.roundtrips.proofs.Trips.{written-reads}
 use Rattle.desk.specs.Answers.{done, lost, refuses, Origin, requested, oldest, keyed, handed, contents, notMaster, nothingSet, turnsDown, silent, faulted, repeated, handled}
 use Rattle.desk.specs.State.{blank, startOf}
 use Rattle.desk.specs.Panel.{losesLine, notedOf, withQueued}

@@ -14,8 +14,8 @@ use Rattle.forms.specs.Forms.{isLine, byMaster, forms, onLine, lookIn, formOf}
 use Rattle.records.specs.Records.{typeOf}
 use Rattle.records.specs.declared.records.Record.{Record}
 use Rattle.records.specs.declared.records.Record.the-variants.{Approved}
-use Rattle.telegram.specs.Answers.{Answer, accepts, refuses}
-use Rattle.telegram.specs.Reading.{readingOf}
+use Rattle.reading.specs.Answers.{Answer, accepts, refuses}
+use Rattle.reading.specs.Reading.{readingOf}
 use Rattle.writing.specs.Writing.{telegramOf}
 use Rattle.desk.specs.Answers.{Origin, oldest, keyed, handled}
 use Rattle.desk.specs.State.{blank}

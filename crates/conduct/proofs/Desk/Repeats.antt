@@ -13,8 +13,8 @@ use Rattle.laws.specs.Truth.{from}
 use Rattle.laws.proofs.Truths.{clash, both-left}
 use Rattle.laws.proofs.Passes.{on-test}
 use Rattle.records.specs.declared.records.Record.{Record}
-use Rattle.telegram.specs.Answers.{Answer, accepts, refuses}
-use Rattle.telegram.specs.Reading.{readingOf}
+use Rattle.reading.specs.Answers.{Answer, accepts, refuses}
+use Rattle.reading.specs.Reading.{readingOf}
 use Rattle.desk.specs.Answers.{repeated}
 use Rattle.desk.specs.Panel.{losesLine, notedOf}
 use Rattle.desk.specs.Rules.{What, misread, Ruling, quiet, wrongSum, again, handles, isNumber, repeats, matterIn, goodFrame, badFrame, ruledBy, rulingIn}

@@ -13,7 +13,7 @@ use Rattle.forms.specs.Forms.{dataType}
 use Rattle.records.specs.Records.{typeOf}
 use Rattle.records.specs.declared.records.Record.{Record}
 use Rattle.values.specs.Values.{permitsRecord}
-use Rattle.telegram.specs.Answers.{Fault, good, fault}
+use Rattle.reading.specs.Answers.{Fault, good, fault}
 use Rattle.desk.specs.Answers.{Done, done, lost, refuses, Told, turnsDown, silent}
 use Rattle.desk.specs.State.{isKey, mayReply, keyFits, inRanges}
 use Rattle.desk.specs.Panel.{losesLine, notedOf, withQueued, withRequested, withKey, recordFault, faultless, keyFault, tickOf, queueOf, setOf, keyOf}

@@ -17,7 +17,7 @@ use Rattle.records.specs.Records.{typeOf}
 use Rattle.records.specs.declared.records.Record.{Record}
 use Rattle.values.specs.Values.{permitsRecord}
 use Rattle.writing.specs.Writing.{telegramOf}
-use Rattle.trips.proofs.Trips.{telegram-length, length-bounds}
+use Rattle.roundtrips.proofs.Trips.{telegram-length, length-bounds}
 use Rattle.desk.specs.Answers.{Told, Origin}
 use Rattle.desk.specs.Answers as h
 use Rattle.desk.specs.State.{blank, mayReply, slotFits, wantedFits, startOf}

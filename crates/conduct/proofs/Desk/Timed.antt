@@ -5,10 +5,10 @@ use mathlib.Core.List.{List}
 use Prim.Native.Nat.{ℕ, _+_, _%_, _^_, _≤_, _<_}
 use native.Mathlib.Omega.{arith}
 use borrow.Author.Tests.{le-leb, lt-leb}
-use Rattle.link.specs.Clock.{elapsedOf, runOut}
+use Rattle.clock.specs.Clock.{elapsedOf, runOut}
 use Rattle.records.specs.declared.records.Record.{Record}
-use Rattle.telegram.specs.Answers.{accepts}
-use Rattle.telegram.specs.Reading.{readingOf}
+use Rattle.reading.specs.Answers.{accepts}
+use Rattle.reading.specs.Reading.{readingOf}
 use Rattle.desk.specs.Answers.{done, lost}
 use Rattle.desk.specs.Panel.{t1Limit, withGood, losesLine, notedOf, tickOf}
 use Rattle.desk.specs.Rules.{again, handles, matterIn, rulingIn}

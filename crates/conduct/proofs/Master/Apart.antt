@@ -1,8 +1,8 @@
 -- The paper's numbers and values tell the master's answers apart (01 'What the promises say'). Assumes nothing.
 use mathlib.Core.Path.{_≡_, refl, sym, ap, _∙_}
-use Rattle.telegram.specs.Answers.{Answer, accepts, answerOf}
-use Rattle.telegram.specs.Answers as t
-use Rattle.telegram.specs.declared.answers.Reading as g
+use Rattle.reading.specs.Answers.{Answer, accepts, answerOf}
+use Rattle.reading.specs.Answers as t
+use Rattle.reading.specs.declared.answers.Reading as g
 use Rattle.papers.specs.Answers.{refusalOf, refusal-back}
 use Rattle.master.specs.Answers.{Why, free, runOut, refused, otherNumber, whyOf, Told, refuses, nothing, sent, answered, otherKind, givenUp, ignored, toldOf}
 use Rattle.master.specs.declared.answers.Reason as r

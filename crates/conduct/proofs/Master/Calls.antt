@@ -11,9 +11,9 @@ use Rattle.forms.specs.Forms.{byMaster}
 use Rattle.records.specs.Records.{typeOf}
 use Rattle.records.specs.declared.records.Record.{Record}
 use Rattle.values.specs.Values.{permitsRecord}
-use Rattle.telegram.specs.Frame.{frameChecks}
-use Rattle.telegram.specs.Reading.{readingOf}
-use Rattle.link.specs.Clock.{runOut}
+use Rattle.reading.specs.Frame.{frameChecks}
+use Rattle.reading.specs.Reading.{readingOf}
+use Rattle.clock.specs.Clock.{runOut}
 use Rattle.master.specs.declared.state.Master.{Master}
 use Rattle.master.specs.declared.answers.Sending.{Sending}
 use Rattle.master.specs.declared.answers.Sending.the-variants.{Offered, Again, Poll}
@@ -25,7 +25,7 @@ use Rattle.master.specs.Sending.{Turn, unlessRefused, sendingOf, failedOf, offe
 use Rattle.master.specs.Hearing.{unlessBad, judgedOf, takenOf, frameOf, hearOf}
 use Rattle.master.proofs.Ranges.{passed, lined, sendable-both, poll-sendable}
 use Rattle.master.proofs.Sends.{offer-passed}
-use Rattle.telegram.specs.Answers as w
+use Rattle.reading.specs.Answers as w
 use Rattle.master.specs.Answers as t
 
 -- a call: its time, what it brings, and the output that it may fill

@@ -3,8 +3,8 @@ use mathlib.Core.Path.{_≡_, refl, ap}
 use mathlib.Core.Bool.{Bool, true}
 use Prim.Native.Nat.{ℕ}
 use native.Mathlib.Omega.{arith}
-use Rattle.link.specs.Counters.{changedOf}
-use Rattle.telegram.specs.Answers.{Answer}
+use Rattle.clock.specs.Counters.{changedOf}
+use Rattle.reading.specs.Answers.{Answer}
 use Rattle.master.specs.declared.state.Master.{Master}
 use Rattle.master.specs.declared.answers.Cause.{Cause}
 use Rattle.master.specs.Answers.{Told, otherKind, givenUp}

@@ -8,7 +8,7 @@ use lib.Dec.{eqb}
 use borrow.Author.Tests.{lt-ltb}
 use Rattle.laws.specs.Truth.{either}
 use Rattle.forms.specs.Forms.{isLine}
-use Rattle.link.specs.Counters.{changedOf}
+use Rattle.clock.specs.Counters.{changedOf}
 use Rattle.master.specs.declared.state.Master.{Master}
 use Rattle.master.specs.Answers.{Told, refuses}
 use Rattle.master.specs.State.{isFree, sendable, inRanges, started}

@@ -10,7 +10,7 @@ use Rattle.forms.specs.Forms.{isLine}
 use Rattle.records.specs.declared.records.Record.{Record}
 use Rattle.values.specs.Values.{permitsRecord, lengthOf}
 use Rattle.writing.specs.Writing.{telegramOf}
-use Rattle.trips.proofs.Trips.{telegram-length}
+use Rattle.roundtrips.proofs.Trips.{telegram-length}
 use Rattle.master.specs.declared.state.Master.{Master}
 use Rattle.master.specs.declared.answers.Sending.{Sending}
 use Rattle.master.specs.declared.answers.Sending.the-variants.{Again}

@@ -13,10 +13,10 @@ use Rattle.records.specs.Records.{recordOf}
 use Rattle.records.specs.declared.records.Record.the-variants.{Approved, Train}
 use Rattle.packets.specs.Packets.{packetOf, leadOf, isDecimal, permits}
 use Rattle.values.specs.Values.{permitsRecord, textOf, valueOf, bodyOf, permittedFrom, permitted, permitsValue, permitsValues, lengthOf}
-use Rattle.telegram.specs.Frame.{lf, cr, countText, summedOf, fieldOf, frameChecks}
-use Rattle.telegram.specs.Field.{outside, wrongLetter, badValue, valuesIn, misshapen, fieldChecks}
-use Rattle.telegram.specs.Reading.{recordIn, checks, readingOf}
-use Rattle.link.specs.Clock.{runOut}
+use Rattle.reading.specs.Frame.{lf, cr, countText, summedOf, fieldOf, frameChecks}
+use Rattle.reading.specs.Field.{outside, wrongLetter, badValue, valuesIn, misshapen, fieldChecks}
+use Rattle.reading.specs.Reading.{recordIn, checks, readingOf}
+use Rattle.clock.specs.Clock.{runOut}
 use Rattle.master.specs.declared.state.Master.{Master}
 use Rattle.master.specs.State.{sendable, inRanges, callFault, started}
 use Rattle.master.specs.Rules.{t2Limit, isFailure, answersTo, permittedAnswer}

@@ -1,6 +1,6 @@
 -- `writing::writing::write` meets its contract. Assumes nothing.
 use Rattle.writing.proofs.Writes.{no-line, not-sent, not-permitted, no-number, no-room, written}
-use Rattle.telegram.specs.Answers.{Outcome}
+use Rattle.reading.specs.Answers.{Outcome}
 use Prim.Native.Nat.{ℕ}
 use mathlib.Core.List.{List}
 use Rattle.laws.proofs.Truths.{not-true, not-false}

@@ -1,7 +1,7 @@
 -- `desk::state::Desk::decide` meets its contract. Assumes nothing.
 use Rattle.desk.proofs.Rulings.{when-accepted, when-refused}
 use Rattle.desk.specs.Rules.{What, goodFrame}
-use Rattle.telegram.specs.Answers.{answerOf}
+use Rattle.reading.specs.Answers.{answerOf}
 use denote.Ref.{now}
 use mathlib.Core.Path.{sym, ap, _∙_}
 use borrow.Author.Needs.{needs}

@@ -1,7 +1,7 @@
 -- `master::state::Master::hear` checks 15 and 14, and ignores a hearing while free and when T2 has run out. Assumes nothing.
 use mathlib.Core.Path.{sym, ap, _∙_}
 use denote.Ref.{now}
-use Rattle.telegram.specs.Answers.{faultOf}
+use Rattle.reading.specs.Answers.{faultOf}
 use borrow.Author.Tests.{ne-eqb}
 use Rattle.master.proofs.Ranges.{passed}
 use Rattle.master.proofs.Hears.{hear-refused, hear-free, hear-late, hear-heard}

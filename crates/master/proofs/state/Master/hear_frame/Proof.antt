@@ -1,7 +1,7 @@
 -- `master::state::Master::hear_frame` ignores a frame that is refused 1 to 7 or has another number, and takes any other. Assumes nothing.
 use mathlib.Core.Path.{sym, ap, _∙_}
 use denote.Ref.{now}
-use Rattle.telegram.specs.Answers.{faultOf, answerOf}
+use Rattle.reading.specs.Answers.{faultOf, answerOf}
 use native.Mathlib.Omega.{arith}
 use Rattle.master.proofs.Ranges.{numbered, line-noted, line-noted-busy}
 use Rattle.master.proofs.Hears.{frame-bad, frame-other, frame-taken}

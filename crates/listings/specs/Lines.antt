@@ -1,0 +1,36 @@
+-- The lines of the listing (01 'Bench cases'). Assumes nothing.
+use Prim.Native.Nat.{ℕ}
+use mathlib.Core.Bool.{cond}
+use mathlib.Core.List.{List, [], _∷_, _++_}
+use lib.Dec.{leb}
+use lib.ListN.{length, drop}
+use Rattle.laws.specs.Text.{codes}
+use Rattle.records.specs.Records.{typeOf}
+use Rattle.reading.specs.Answers.{Answer, accepts, refuses, wrote, refusesTo}
+use Rattle.reading.specs.Frame.{lf}
+use Rattle.writing.specs.Writing.{Write}
+use Rattle.listings.specs.Numbers.{decimalText}
+
+-- the end of a line
+abbrev pub lastText : ℕ → List ℕ
+lastText n = codes " " ++ (decimalText n ++ (lf ∷ []))
+
+-- `ok`, type, number, or `no`, refusal, place; the type is printed as its byte
+abbrev pub answerText : Answer → List ℕ
+answerText (accepts rec number) = codes " ok " ++ ((typeOf rec ∷ []) ++ lastText number)
+answerText (refuses refusal place) = codes " no " ++ (decimalText refusal ++ lastText place)
+
+-- ordinal, offset and what the telegram reads as
+unfoldable pub lineText : ℕ → ℕ → Answer → List ℕ
+lineText ordinal offset answer = decimalText ordinal ++ (codes " " ++ (decimalText offset ++ answerText answer))
+
+-- room for any line: four numbers of at most 20 digits, and 7 other bytes
+abbrev pub lineRoom : ℕ
+lineRoom = 87
+
+-- text from the front of an output with room for any line, with what lies behind it kept; else 14, and nothing is written
+unfoldable pub putting : List ℕ → List ℕ → Write
+putting text out = cond (leb lineRoom (length out)) (wrote (length text), text ++ drop (length text) out) (refusesTo 14 0, out)
+
+abbrev pub linePut : ℕ → ℕ → Answer → List ℕ → Write
+linePut ordinal offset answer = putting (lineText ordinal offset answer)

@@ -1,0 +1,76 @@
+-- The data field: its packets, checks 8 to 11, and its values (01 'Telegram forms', 'Numbered answers'). Assumes nothing.
+use Prim.Native.Nat.{ℕ, zero, suc, _+_}
+use mathlib.Core.Bool.{Bool, cond}
+use mathlib.Core.List.{List, [], _∷_, _++_}
+use lib.Dec.{eqb, leb}
+use lib.ListN.{length, getD, take, drop}
+use Rattle.laws.specs.Truth.{both, either}
+use Rattle.characters.specs.Characters.{inSet}
+use Rattle.packets.specs.Packets.{isDecimal}
+use Rattle.forms.specs.Forms.{Slot, slotsOf, widthOf, formOf}
+use Rattle.values.specs.Values.{textOf, valueOf, permitted}
+use Rattle.forms.specs.declared.table.Form.{Form}
+use Rattle.reading.specs.Frame.{needs, fieldOf}
+use Rattle.reading.specs.declared.answers.Spot.{Spot}
+use Rattle.reading.specs.declared.answers.Spot.the-variants.{Nowhere, At}
+
+-- the data field of packets with these values: each a letter and then its value
+unfoldable pub dataOf : List Slot → List ℕ → List ℕ
+dataOf [] vs = []
+dataOf (p ∷ ps) vs = p .letter ∷ (textOf (p .letter) (p .len) (getD vs 0 0) ++ dataOf ps (drop 1 vs))
+
+-- the place behind a packet, and what stands from there on
+abbrev pub behind : Slot → ℕ → ℕ
+behind p at = at + (1 + p .len)
+
+abbrev pub after : Slot → List ℕ → List ℕ
+after p d = drop (1 + p .len) d
+
+-- the characters of the packet that d begins with
+abbrev pub valueText : Slot → List ℕ → List ℕ
+valueText p d = take (p .len) (drop 1 d)
+
+-- the first byte outside the set
+unfoldable pub outside : ℕ → List ℕ → Spot
+outside at [] = Nowhere
+outside at (b ∷ bs) = cond (inSet b) (outside (at + 1) bs) (At at)
+
+-- the first packet letter that is not the form's
+unfoldable pub wrongLetter : ℕ → List Slot → List ℕ → Spot
+wrongLetter at [] d = Nowhere
+wrongLetter at (p ∷ ps) d = cond (eqb (getD d 0 0) (p .letter)) (wrongLetter (behind p at) ps (after p d)) (At at)
+
+-- the letter of the first packet whose value is not permitted
+unfoldable pub badValue : ℕ → ℕ → ℕ → List Slot → List ℕ → Spot
+badValue line kind at [] d = Nowhere
+badValue line kind at (p ∷ ps) d = cond (permitted line kind (p .letter) (valueText p d)) (badValue line kind (behind p at) ps (after p d)) (At at)
+
+-- the packets' values, with 0 in the places behind them, n in all
+unfoldable pub valuesIn : ℕ → List Slot → List ℕ → List ℕ
+valuesIn zero ps d = []
+valuesIn (suc n) [] d = 0 ∷ valuesIn n [] d
+valuesIn (suc n) (p ∷ ps) d = valueOf (p .letter) (valueText p d) ∷ valuesIn n ps (after p d)
+
+-- a value of so many characters is a number of 32 bits
+unfoldable pub narrow : ℕ → ℕ → Bool
+narrow letter len = both (leb len 6) (either (isDecimal letter) (leb len 3))
+
+abbrev pub narrowSlot : Slot → Bool
+narrowSlot p = narrow (p .letter) (p .len)
+
+-- data field of another length (place 5), or a packet letter wrong
+unfoldable pub misshapen : Form → List ℕ → Spot
+misshapen f d = cond (eqb (length d) (widthOf f)) (wrongLetter 5 (slotsOf f) d) (At 5)
+
+-- checks 8 to 11, in order
+unfoldable pub fieldChecks : ℕ → List ℕ → List Spot
+fieldChecks line s =
+    -- 8: type is not on this line
+    needs (formOf line (getD s 3 0) .found) 3 ∷
+    -- 9: data byte outside the set
+    outside 5 (fieldOf s) ∷
+    -- 10: data field of another length, or a packet letter wrong
+    misshapen (formOf line (getD s 3 0) .form) (fieldOf s) ∷
+    -- 11: a value not permitted
+    badValue line (getD s 3 0) 5 (slotsOf (formOf line (getD s 3 0) .form)) (fieldOf s) ∷
+    []

@@ -1,0 +1,77 @@
+// The data field: checks 9 to 11 (01 'Numbered answers').
+ghost use mathlib.Core.Path.{_≡_};
+ghost use Rattle.forms.specs.Forms.{slotsOf};
+ghost use Rattle.reading.specs.Field.{outside, wrongLetter, badValue, misshapen};
+use crate::answers::Spot;
+use characters::characters::in_set;
+use characters::slices::byte_at;
+use characters::slices::part;
+use characters::slices::wide;
+use forms::table::Form;
+use forms::table::count_of;
+use forms::table::width_of;
+use values::values::permits_text;
+
+// Check 9: the first byte outside the set.
+pub(crate) fn outside_set(field: &[u8]) -> Spot
+    ensures { λ r. ⌜ r ≡ outside 5 (now (field .entry)) ⌝ }
+{
+    let mut i: usize = 0;
+    while i < field.len() {
+        if !in_set(field[i]) {
+            return Spot::At(5 + i);
+        }
+        i = i + 1;
+    }
+    Spot::Nowhere
+}
+
+// The first packet letter that is not the form's.
+fn wrong_letter(field: &[u8], form: Form) -> Spot
+    ensures { λ r. ⌜ r ≡ wrongLetter 5 (slotsOf form) (now (field .entry)) ⌝ }
+{
+    let letters = form.letters;
+    let lens = form.lens;
+    let count = count_of(form);
+    let mut at: usize = 0;
+    let mut j: usize = 0;
+    while j < count {
+        if byte_at(field, at) != letters[j] {
+            return Spot::At(5 + at);
+        }
+        at = at + (1 + wide(lens[j]));
+        j = j + 1;
+    }
+    Spot::Nowhere
+}
+
+// Check 10: data field of another length, or a packet letter wrong.
+pub(crate) fn wrong_form(field: &[u8], form: Form) -> Spot
+    ensures { λ r. ⌜ r ≡ misshapen form (now (field .entry)) ⌝ }
+{
+    if field.len() == width_of(form) {
+        wrong_letter(field, form)
+    } else {
+        Spot::At(5)
+    }
+}
+
+// Check 11: the letter of the first packet whose value is not permitted.
+pub(crate) fn bad_value(line: u8, kind: u8, field: &[u8], form: Form) -> Spot
+    ensures { λ r. ⌜ r ≡ badValue line kind 5 (slotsOf form) (now (field .entry)) ⌝ }
+{
+    let letters = form.letters;
+    let lens = form.lens;
+    let count = count_of(form);
+    let mut at: usize = 0;
+    let mut j: usize = 0;
+    while j < count {
+        let len = wide(lens[j]);
+        if !permits_text(line, kind, letters[j], part(field, at + 1, len)) {
+            return Spot::At(5 + at);
+        }
+        at = at + (1 + len);
+        j = j + 1;
+    }
+    Spot::Nowhere
+}

@@ -1,0 +1,148 @@
+// Reading a telegram (01 'Numbered answers'): 15 before all, then checks 1 to 11 in order, then its record and number.
+ghost use mathlib.Core.Path.{_≡_};
+ghost use mathlib.Core.Bool.{true, false};
+ghost use Prim.Native.Nat.{_+_, _*_, _-_, _%_, _≤_};
+ghost use lib.ListN.{length};
+ghost use Rattle.laws.specs.Truth.{every};
+ghost use Rattle.laws.specs.Numerals.{base, nought, numberOn};
+ghost use Rattle.forms.specs.Forms.{slotsOf};
+ghost use Rattle.packets.specs.Packets.{isDecimal};
+ghost use Rattle.values.specs.Values.{valueOf};
+ghost use Rattle.reading.specs.Answers.{answerOf};
+ghost use Rattle.reading.specs.Field.{valuesIn, narrowSlot};
+ghost use Rattle.reading.specs.Reading.{inForm, contentsOf, readingOf};
+use crate::answers::Check;
+use crate::answers::Reading;
+use crate::answers::Spot;
+use crate::field::bad_value;
+use crate::field::outside_set;
+use crate::field::wrong_form;
+use crate::frame::frame_check;
+use characters::slices::byte_at;
+use characters::slices::less;
+use characters::slices::part;
+use characters::slices::wide;
+use forms::table::Form;
+use forms::table::count_of;
+use forms::table::form_of;
+use forms::table::is_line;
+use packets::packets::is_decimal;
+use packets::packets::lead_of;
+use records::records::record_of;
+use records::refusals::Refusal;
+
+// The number that a number's digits and one digit more say.
+fn with_digit(decimal: bool, a: u32, b: u8) -> u32
+    requires { ⌜ a ≤ 10000000 ⌝ }
+    ensures { λ r. ⌜ r ≡ a * base decimal + (b - nought decimal) % base decimal ⌝ }
+{
+    if !decimal {
+        return a * 256 + (b as u32);
+    }
+    if b < b'0' {
+        return a * 10;
+    }
+    a * 10 + ((b - b'0') % 10) as u32
+}
+
+// The number that digits say.
+fn number_of(decimal: bool, text: &[u8]) -> u32
+    requires { ⌜ (length (now text) ≤ 6) × (decimal ≡ false → length (now text) ≤ 3) ⌝ }
+    ensures { λ r. ⌜ r ≡ numberOn decimal 0 (now (text .entry)) ⌝ }
+{
+    let mut a: u32 = 0;
+    let mut i: usize = 0;
+    while i < text.len() {
+        a = with_digit(decimal, a, text[i]);
+        i = i + 1;
+    }
+    a
+}
+
+// The number that the characters of a packet's value say.
+fn value_of(letter: u8, text: &[u8]) -> u32
+    requires { ⌜ (length (now text) ≤ 6) × (isDecimal letter ≡ false → length (now text) ≤ 3) ⌝ }
+    ensures { λ r. ⌜ r ≡ valueOf letter (now (text .entry)) ⌝ }
+{
+    let lead = lead_of(letter);
+    let decimal = is_decimal(letter);
+    if lead == 0 {
+        return number_of(decimal, text);
+    }
+    number_of(decimal, part(text, 1, text.len()))
+}
+
+// The packets' values, with 0 in the places behind them.
+fn values_in(field: &[u8], form: Form) -> [u32; 10]
+    requires { ⌜ every narrowSlot (slotsOf form) ≡ true ⌝ }
+    ensures { λ r. ⌜ r ≡ valuesIn 10 (slotsOf form) (now (field .entry)) ⌝ }
+{
+    let letters = form.letters;
+    let lens = form.lens;
+    let count = count_of(form);
+    let mut values = [0u32; 10];
+    let mut at: usize = 0;
+    let mut j: usize = 0;
+    while j < count {
+        let len = wide(lens[j]);
+        values[j] = value_of(letters[j], part(field, at + 1, len));
+        at = at + (1 + len);
+        j = j + 1;
+    }
+    values
+}
+
+// Checks 10 and 11, and the record of a field that passes them.
+fn in_form(line: u8, kind: u8, number: u8, field: &[u8], form: Form) -> Reading
+    requires { ⌜ every narrowSlot (slotsOf form) ≡ true ⌝ }
+    ensures { λ r. ⌜ answerOf r ≡ inForm line kind number (now (field .entry)) form ⌝ }
+{
+    let wrong = wrong_form(field, form);
+    if let Spot::At(place) = wrong {
+        return Reading::Refused(Refusal::Form(place));
+    }
+    let bad = bad_value(line, kind, field, form);
+    if let Spot::At(place) = bad {
+        return Reading::Refused(Refusal::Value(place));
+    }
+    Reading::Accepted(record_of(kind, values_in(field, form)), number)
+}
+
+// A character's value as a decimal digit.
+fn digit_of(b: u8) -> u8
+    ensures { λ r. ⌜ r ≡ b - 48 ⌝ }
+{
+    if b < b'0' { 0 } else { b - b'0' }
+}
+
+// Checks 8 to 11, and the record and number of a telegram that passes them.
+fn contents(line: u8, s: &[u8]) -> Reading
+    ensures { λ r. ⌜ answerOf r ≡ contentsOf line (now (s .entry)) ⌝ }
+{
+    let kind = byte_at(s, 3);
+    let looked = form_of(line, kind);
+    if !looked.found {
+        return Reading::Refused(Refusal::Kind);
+    }
+    let form = looked.form;
+    let field = part(s, 5, less(s.len(), 8));
+    let strange = outside_set(field);
+    if let Spot::At(place) = strange {
+        return Reading::Refused(Refusal::Character(place));
+    }
+    in_form(line, kind, digit_of(byte_at(s, 4)), field, form)
+}
+
+// What bytes on a line read as.
+pub fn read(line: u8, s: &[u8]) -> Reading
+    ensures { λ r. ⌜ answerOf r ≡ readingOf line (now (s .entry)) ⌝ }
+{
+    if !is_line(line) {
+        return Reading::Refused(Refusal::State);
+    }
+    let check = frame_check(s);
+    match check {
+        Check::Fails(refusal) => Reading::Refused(refusal),
+        Check::Good => contents(line, s),
+    }
+}

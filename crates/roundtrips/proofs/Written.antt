@@ -1,0 +1,88 @@
+-- The telegram of a permitted record: it passes checks 1 to 11, carries the record and has the form's length. Assumes nothing.
+use mathlib.Core.Path.{_≡_}
+use mathlib.Core.Bool.{true}
+use mathlib.Core.List.{List}
+use Prim.Native.Nat.{ℕ, _+_, _-_, _<_}
+use Prim.Native.Char.{code}
+use native.Mathlib.Omega.{arith}
+use lib.ListN.{length, getD}
+use Rattle.forms.specs.Forms.{Slot, formOf, slotsOf, widthOf}
+use Rattle.records.specs.Records.{typeOf, fieldsOf, valuesOf}
+use Rattle.values.specs.Values.{permitsRecord}
+use Rattle.records.specs.declared.records.Record.{Record}
+use Rattle.reading.specs.Field.{dataOf, outside, valuesIn}
+use Rattle.reading.specs.Reading.{recordIn}
+use Rattle.writing.specs.Writing.{telegramOf}
+use Rattle.reading.specs.declared.answers.Spot.the-variants.{Nowhere}
+use Rattle.roundtrips.proofs.Rows.{Row, row}
+use Rattle.roundtrips.proofs.Fields.{Clear, set-inside, data-length, data-letters, data-set, data-permitted, data-values}
+use Rattle.roundtrips.proofs.Records.{permitted-found, permitted-line, permitted-values, record-again}
+use Rattle.roundtrips.proofs.Frames.{Framed, frame-length, frame-kind, frame-number, frame-field, frame-framed}
+use Rattle.roundtrips.proofs.Checks.{Carried}
+
+module _ (line : ℕ) (rec : Record) (h : permitsRecord line rec ≡ true) where
+  -- the packets of the record and its data field
+  abbrev slots : List Slot
+  slots = slotsOf (formOf line (typeOf rec) .form)
+
+  abbrev field : List ℕ
+  field = dataOf slots (valuesOf rec)
+
+  -- what the table says of its form
+  known : Row (typeOf rec) (formOf line (typeOf rec) .form)
+  known = row line (typeOf rec) (permitted-found line rec h)
+
+  -- the field fills the form
+  field-length : length field ≡ widthOf (formOf line (typeOf rec) .form)
+  unfolding widthOf
+  field-length = data-length slots (valuesOf rec)
+
+  -- the values are read back from their packets
+  field-values : valuesIn 10 slots field ≡ valuesOf rec
+  field-values =
+      let e : length slots ≡ length (fieldsOf rec) = rw (record-again line rec h) at (known .count (valuesOf rec)) in
+      data-values line (typeOf rec) 10 slots (fieldsOf rec) e (permitted-values line rec h)
+
+  -- its bytes are of the set, its letters the form's and its values permitted
+  field-inside : outside 5 field ≡ Nowhere
+  field-inside =
+      set-inside 5 field (data-set line (typeOf rec) slots (valuesOf rec) (permitted-line line rec h) (known .letters) (permitted-values line rec h))
+
+  field-clear : Clear line (typeOf rec) 5 slots field
+  field-clear =
+      record {
+        filled = data-length slots (valuesOf rec);
+        letters = data-letters 5 slots (valuesOf rec);
+        values = data-permitted line (typeOf rec) 5 slots (valuesOf rec) (permitted-values line rec h);
+      }
+
+  -- checks 8 to 11 find no fault in the telegram
+  pub written-carried : (number : ℕ) → Carried line (telegramOf line rec number)
+  unfolding telegramOf
+  written-carried number =
+      record {
+        found = rw (frame-kind (typeOf rec) number field) (permitted-found line rec h);
+        inside = rw (frame-field (typeOf rec) number field) field-inside;
+        clear = rw (frame-kind (typeOf rec) number field, frame-field (typeOf rec) number field) field-clear;
+      }
+
+  -- and it carries the record
+  pub written-carries : (number : ℕ) → recordIn line (telegramOf line rec number) ≡ rec
+  unfolding telegramOf recordIn
+  written-carries number = rw (frame-kind (typeOf rec) number field, frame-field (typeOf rec) number field, field-values) (record-again line rec h)
+
+  -- its length is the form's width and 8 more
+  pub written-length : (number : ℕ) → length (telegramOf line rec number) ≡ 8 + widthOf (formOf line (typeOf rec) .form)
+  unfolding telegramOf
+  written-length number = omega (arith, frame-length (typeOf rec) number field, field-length)
+
+  -- checks 1 to 7 find no fault in it
+  pub written-framed : (number : ℕ) → number < 2 → Framed (telegramOf line rec number)
+  unfolding telegramOf
+  written-framed number n =
+      frame-framed (typeOf rec) number field (omega (arith, field-length, known .wide)) (omega (arith, field-length, known .narrow)) n
+
+  -- and it carries the number
+  pub written-number : (number : ℕ) → getD (telegramOf line rec number) 4 0 - code "0" ≡ number
+  unfolding telegramOf
+  written-number number = omega (arith, frame-number (typeOf rec) number field)
