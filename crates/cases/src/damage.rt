@@ -2,10 +2,10 @@
 use crate::show;
 use characters::slices::part;
 use characters::slices::wide;
-use records::refusals::number_of;
-use records::refusals::place_of;
 use reading::answers::Reading;
 use reading::reading::read;
+use records::refusals::number_of;
+use records::refusals::place_of;
 
 // Case h: LF, 21, B, 0, L125 %090 H120 R88, EC, CR.
 const H: [u8; 23] = [

@@ -2,13 +2,13 @@
 use forms::table::count_of;
 use forms::table::form_of;
 use libc::STDOUT_FILENO;
+use reading::answers::Reading;
 use records::records::Record;
 use records::records::type_of;
 use records::records::values_of;
 use records::refusals::Refusal;
 use records::refusals::number_of;
 use records::refusals::place_of;
-use reading::answers::Reading;
 
 pub(crate) fn say(text: &[u8]) {
     io::write_all(STDOUT_FILENO, text);

@@ -8,10 +8,10 @@ use crate::show;
 use characters::checksum::checksum;
 use characters::slices::byte_at;
 use characters::slices::part;
-use records::records::Record;
-use records::records::record_of;
 use reading::answers::Writing;
 use reading::reading::read;
+use records::records::Record;
+use records::records::record_of;
 use writing::writing::write;
 
 fn byte(text: &[u8]) -> u8 {

@@ -4,9 +4,9 @@ ghost use Rattle.cutting.specs.Search.{spanOf, partOf, startOf, placed, 
 use characters::slices::less;
 use characters::slices::part;
 use forms::table::is_line;
-use records::refusals::Refusal;
 use reading::answers::Reading;
 use reading::reading::read;
+use records::refusals::Refusal;
 use turns::turns::Turn;
 use turns::turns::turn_of;
 

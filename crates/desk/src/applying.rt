@@ -16,8 +16,8 @@ use crate::deciding::Matter;
 use crate::deciding::Rule;
 use crate::state::Desk;
 use clock::counters::LastTaken;
-use records::records::Record;
 use reading::answers::Writing;
+use records::records::Record;
 use writing::writing::write;
 
 // The state behind a hearing, beside its answer.

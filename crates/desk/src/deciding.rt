@@ -6,12 +6,12 @@ ghost use Rattle.desk.specs.Rules.{matterOf, rulingOf, isNumber, repeats
 use crate::state::Desk;
 use characters::slices::byte_at;
 use forms::table::by_master;
+use reading::answers::Reading;
+use reading::reading::read;
 use records::records::Record;
 use records::records::type_of;
 use records::refusals::Refusal;
 use records::refusals::number_of;
-use reading::answers::Reading;
-use reading::reading::read;
 
 // What a handled telegram is.
 pub enum Matter {

@@ -10,12 +10,12 @@ use crate::state::Slot;
 use crate::state::Step;
 use crate::state::Wanted;
 use crate::state::is_key;
-use forms::table::data_type;
 use clock::clock::run_out;
+use forms::table::data_type;
+use reading::answers::Check;
 use records::records::Record;
 use records::records::type_of;
 use records::refusals::Refusal;
-use reading::answers::Check;
 use values::values::permits_record;
 
 // T1's limit, in milliseconds.

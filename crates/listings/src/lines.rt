@@ -8,12 +8,12 @@ ghost use Rattle.listings.specs.Lines.{lastText, answerText, linePut};
 use crate::numbers::put_byte;
 use crate::numbers::put_number;
 use crate::numbers::put_word;
+use reading::answers::Reading;
+use reading::answers::Writing;
 use records::records::type_of;
 use records::refusals::Refusal;
 use records::refusals::number_of;
 use records::refusals::place_of;
-use reading::answers::Reading;
-use reading::answers::Writing;
 
 // The end of a line: a space, a number and LF.
 fn put_last(out: &mut [u8], at: usize, n: u64) -> usize

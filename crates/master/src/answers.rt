@@ -1,7 +1,7 @@
 // What the master's calls answer (01 'Link rules', 'Numbered answers').
+use reading::answers::Reading;
 use records::records::Record;
 use records::refusals::Refusal;
-use reading::answers::Reading;
 
 // Which sending of a telegram it is: the first of an offered record, one again, or the first of a poll.
 pub enum Sending {

@@ -17,12 +17,12 @@ use crate::state::Master;
 use crate::state::Step;
 use characters::slices::byte_at;
 use clock::clock::run_out;
-use records::records::Record;
-use records::records::type_of;
 use reading::answers::Check;
 use reading::answers::Reading;
 use reading::frame::frame_check;
 use reading::reading::read;
+use records::records::Record;
+use records::records::type_of;
 
 impl Master {
     // An ignored hearing gives the same state.

@@ -14,14 +14,14 @@ use crate::answers::Sending;
 use crate::rules::poll_of;
 use crate::state::Master;
 use crate::state::Step;
-use forms::table::by_master;
 use clock::clock::run_out;
 use clock::counters::ToSend;
+use forms::table::by_master;
+use reading::answers::Check;
+use reading::answers::Writing;
 use records::records::Record;
 use records::records::type_of;
 use records::refusals::Refusal;
-use reading::answers::Check;
-use reading::answers::Writing;
 use values::values::permits_record;
 use writing::writing::write;
 

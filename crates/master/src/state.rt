@@ -5,13 +5,13 @@ ghost use Rattle.master.specs.Answers.{toldOf};
 ghost use Rattle.master.specs.declared.answers.Answer.the-variants;
 ghost use Rattle.master.specs.State.{sendable, inRanges, callFault, afterSending, withLine, freed, answeredState, startOf};
 use crate::answers::Answer;
+use clock::counters::ToSend;
 use forms::table::by_master;
 use forms::table::is_line;
-use clock::counters::ToSend;
+use reading::answers::Check;
 use records::records::Record;
 use records::records::type_of;
 use records::refusals::Refusal;
-use reading::answers::Check;
 use values::values::permits_record;
 
 // A count of 0 is free; 1 to 3 are the sendings made of rec's telegram. While free, rec and T2's start are not looked at and stay as they were.

@@ -4,6 +4,7 @@ use crate::rows::Call;
 use crate::show;
 use crate::words;
 use characters::slices::part;
+use clock::counters::LastTaken;
 use desk::answers::Heard;
 use desk::answers::Outcome;
 use desk::answers::Source;
@@ -12,7 +13,6 @@ use desk::state::Desk;
 use desk::state::Slot;
 use desk::state::Step;
 use desk::state::Wanted;
-use clock::counters::LastTaken;
 use records::refusals::Refusal;
 
 // The state: line, last number taken, queued records.

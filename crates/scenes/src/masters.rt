@@ -11,8 +11,8 @@ use master::answers::Reason;
 use master::answers::Sending;
 use master::state::Master;
 use master::state::Step;
-use records::records::Record;
 use reading::answers::Reading;
+use records::records::Record;
 
 // The state: line, number to send, sendings made.
 fn state(m: Master) {

@@ -7,9 +7,9 @@ use crate::show;
 use crate::words;
 use characters::slices::byte_at;
 use characters::slices::part;
+use clock::clock::elapsed;
 use desk::state::Desk;
 use libc::STDIN_FILENO;
-use clock::clock::elapsed;
 use master::state::Master;
 
 // The two ends, and how much of a row has been read.

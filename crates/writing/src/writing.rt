@@ -17,13 +17,13 @@ use forms::table::count_of;
 use forms::table::form_of;
 use forms::table::is_line;
 use forms::table::width_of;
+use reading::answers::Writing;
+use reading::frame::count_high;
+use reading::frame::count_low;
 use records::records::Record;
 use records::records::type_of;
 use records::records::values_of;
 use records::refusals::Refusal;
-use reading::answers::Writing;
-use reading::frame::count_high;
-use reading::frame::count_low;
 use values::values::permits_record;
 use values::values::put_packet;
 
