@@ -9,7 +9,8 @@ use native.Mathlib.Nat.{add-zero}
 use lib.ListN.{length, drop, take-append-drop, length-append, length-drop, drop-of-length-le}
 use lib.Seq.{take-all, drop-drop}
 use borrow.Rule.Slice.PartMut.{putMid, midOf}
-use Rattle.reading.specs.Answers.{Outcome, wrote, refusesTo, answerOf, outcomeOf}
+use Rattle.records.specs.Refusals.{no}
+use Rattle.reading.specs.Answers.{Outcome, written, refused, answerOf, outcomeOf}
 use Rattle.reading.specs.Reading.{readingOf}
 use Rattle.reading.specs.declared.answers.Reading.{Reading}
 use Rattle.reading.specs.declared.answers.Writing.{Writing}
@@ -92,7 +93,7 @@ module _ (line ordinal base : ℕ) (s : List ℕ) (place : ℕ) (out : List ℕ)
       room b q = first-line line ordinal base s place out filled start end h ∙ rw (← left-length, q)
 
       go : (b : Bool) → leb lineRoom (length left) ≡ b
-          → Told (stepFor end (cond {A = Write} b (wrote (length t), t ++ drop (length t) left) (refusesTo 14 0, left) .0)) (cond {A = Write} b (wrote (length t), t ++ drop (length t) left) (refusesTo 14 0, left) .1)
+          → Told (stepFor end (cond {A = Write} b (written (length t), t ++ drop (length t) left) (refused (no 14 0), left) .0)) (cond {A = Write} b (written (length t), t ++ drop (length t) left) (refused (no 14 0), left) .1)
       go true q =
           let w = found-within s place start end h in (
             omega arith,

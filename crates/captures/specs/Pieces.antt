@@ -8,7 +8,7 @@ use lib.ListN.{length, take, drop}
 use Rattle.laws.specs.Truth.{from}
 use Rattle.laws.specs.Text.{codes}
 use Rattle.forms.specs.Forms.{isLine}
-use Rattle.reading.specs.Answers.{Outcome, wrote, refusesTo}
+use Rattle.reading.specs.Answers.{Outcome, written, refused}
 use Rattle.reading.specs.Frame.{lf}
 use Rattle.reading.specs.Reading.{readingOf}
 use Rattle.cutting.specs.declared.search.Span.{Span}
@@ -63,8 +63,8 @@ listingOf (digit ∷ s) = cond (isLine (lineDigit digit)) (linesOf (lineDigit di
 
 -- the line of the next telegram, from the front of an output
 abbrev pub stepFor : ℕ → Outcome → step.Step
-stepFor end (wrote n) = step.the-variants.Line end n
-stepFor end (refusesTo number place) = step.the-variants.Full
+stepFor end (written n) = step.the-variants.Line end n
+stepFor end (refused x) = step.the-variants.Full
 
 abbrev pub stepAt : ℕ → ℕ → ℕ → List ℕ → Span → List ℕ → step.Step × List ℕ
 stepAt line ordinal base s (Found start end) out =

@@ -1,6 +1,7 @@
 -- The paper's numbers and places tell the answers of the step and of the search apart (01 'What the promises say'). Assumes nothing.
 use mathlib.Core.Path.{_≡_, refl}
-use Rattle.papers.specs.Answers.{one-refusal, one-reading}
+use Rattle.records.proofs.Apart.{one-refusal}
+use Rattle.reading.proofs.Apart.{one-reading}
 use Rattle.cutting.specs.Gather.{gatheredOf}
 use Rattle.cutting.specs.Search.{cuttingOf}
 use Rattle.cutting.specs.declared.gather.Gathered as g
@@ -17,7 +18,7 @@ one-gathered (g.the-variants.Telegram m) (g.the-variants.Refused y) h = cc
 one-gathered (g.the-variants.Refused x) g.the-variants.Nothing h = cc
 one-gathered (g.the-variants.Refused x) (g.the-variants.Telegram n) h = cc
 one-gathered (g.the-variants.Refused x) (g.the-variants.Refused y) h =
-    let e : x ≡ y = one-refusal x y (cc) (cc) in
+    let e : x ≡ y = one-refusal x y (cc) in
     cc
 
 -- of a call that cuts and reads
@@ -33,5 +34,5 @@ one-cutting (c.the-variants.Read o e x) (c.the-variants.Refused y) h = cc
 one-cutting (c.the-variants.Refused x) c.the-variants.Nothing h = cc
 one-cutting (c.the-variants.Refused x) (c.the-variants.Read o e y) h = cc
 one-cutting (c.the-variants.Refused x) (c.the-variants.Refused y) h =
-    let e : x ≡ y = one-refusal x y (cc) (cc) in
+    let e : x ≡ y = one-refusal x y (cc) in
     cc

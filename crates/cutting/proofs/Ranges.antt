@@ -6,13 +6,14 @@ use native.Mathlib.Omega.{arith}
 use lib.ListN.{length, take, length-set}
 use lib.Seq.{length-take-le}
 use borrow.Author.Tests.{le-ltb}
+use Rattle.records.specs.Refusals.{No}
 use Rattle.turns.specs.declared.turns.Turn.{Turn}
 use Rattle.turns.specs.declared.turns.Turn.the-variants.{Joins, Ends, Drops}
 use Rattle.cutting.specs.declared.gather.Heard.{Heard}
 use Rattle.cutting.specs.declared.gather.Heard.the-variants.{Byte, Hit}
 use Rattle.cutting.specs.declared.gather.Gatherer.{Gatherer}
 use Rattle.turns.specs.Turns.{turnOf}
-use Rattle.cutting.specs.Gather.{none, telegram, refuses, atStart, turned, heardOf, gatherOf}
+use Rattle.cutting.specs.Gather.{none, telegram, refused, atStart, turned, heardOf, gatherOf}
 use Rattle.turns.proofs.Cases.{joins-at, ends-at}
 use Rattle.cutting.proofs.Streams.{InRange, after}
 
@@ -33,14 +34,14 @@ step-range g (Byte byte) r = rw (hears g (Byte byte) r) (turn-range g byte (turn
 step-range g Hit r = rw (hears g Hit r) record { few = omega arith; whole = r .whole }
 
 -- in its ranges a state refuses nothing
-pub not-refused : (g : Gatherer) (item : Heard) (number place : ℕ) → InRange g → ¬ (gatherOf g item .1 ≡ refuses number place)
-not-refused g (Byte byte) number place r e = turn (turnOf (g .len) byte) (rw (hears g (Byte byte) r) at e)
+pub not-refused : (g : Gatherer) (item : Heard) (x : No) → InRange g → ¬ (gatherOf g item .1 ≡ refused x)
+not-refused g (Byte byte) x r e = turn (turnOf (g .len) byte) (rw (hears g (Byte byte) r) at e)
   where
-    turn : (t : Turn) → ¬ (turned g byte t .1 ≡ refuses number place)
+    turn : (t : Turn) → ¬ (turned g byte t .1 ≡ refused x)
     turn (Joins at) q = let z : _≡_ {A = ℕ} 0 1 = cc in omega arith
     turn (Ends at) q = let z : _≡_ {A = ℕ} 0 1 = cc in omega arith
     turn Drops q = let z : _≡_ {A = ℕ} 0 1 = cc in omega arith
-not-refused g Hit number place r e = let q : none ≡ refuses number place = rw (hears g Hit r) at e in let z : _≡_ {A = ℕ} 0 1 = cc in omega arith
+not-refused g Hit x r e = let q : none ≡ refused x = rw (hears g Hit r) at e in let z : _≡_ {A = ℕ} 0 1 = cc in omega arith
 
 -- the number that a step answers is the number of its telegram's bytes
 pub telegram-number : (g : Gatherer) (item : Heard) (n : ℕ) → InRange g → gatherOf g item .1 ≡ telegram n → length (take n (gatherOf g item .0 .bytes)) ≡ n
@@ -68,5 +69,5 @@ pub always-in-range : (items : List Heard) → InRange (after atStart items)
 always-in-range items = after-range atStart items start-range
 
 -- so its own calls are never refused 15, nor refused at all
-pub never-refused : (items : List Heard) (item : Heard) (number place : ℕ) → ¬ (gatherOf (after atStart items) item .1 ≡ refuses number place)
-never-refused items item number place = not-refused (after atStart items) item number place (always-in-range items)
+pub never-refused : (items : List Heard) (item : Heard) (x : No) → ¬ (gatherOf (after atStart items) item .1 ≡ refused x)
+never-refused items item x = not-refused (after atStart items) item x (always-in-range items)

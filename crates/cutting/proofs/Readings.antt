@@ -3,15 +3,16 @@ use mathlib.Core.Path.{_≡_, ap}
 use mathlib.Core.Bool.{true, false}
 use mathlib.Core.List.{List}
 use Prim.Native.Nat.{ℕ}
+use Rattle.records.specs.Refusals.{no}
 use Rattle.forms.specs.Forms.{isLine}
 use Rattle.reading.specs.declared.answers.Reading.{Reading}
 use Rattle.reading.specs.Answers.{answerOf}
 use Rattle.reading.specs.Reading.{readingOf}
 use Rattle.cutting.specs.declared.search.Span.the-variants.{Found, Nothing}
-use Rattle.cutting.specs.Search.{spanOf, partOf, none, reads, refuses, nextOf}
+use Rattle.cutting.specs.Search.{spanOf, partOf, none, reads, refused, nextOf}
 
 module _ (line : ℕ) (s : List ℕ) (from : ℕ) where
-  pub bad-line : isLine line ≡ false → refuses 15 0 ≡ nextOf line s from
+  pub bad-line : isLine line ≡ false → refused (no 15 0) ≡ nextOf line s from
   unfolding nextOf
   bad-line l = rw l
 

@@ -8,7 +8,7 @@ use Rattle.cutting.specs.declared.gather.Heard.the-variants.{Byte}
 use Rattle.cutting.specs.declared.gather.Gatherer.{Gatherer}
 use Rattle.cutting.specs.declared.search.Span.{Span}
 use Rattle.cutting.specs.declared.search.Span.the-variants.{Found, Nothing}
-use Rattle.cutting.specs.Gather.{Cut, none, telegram, refuses, gatherOf}
+use Rattle.cutting.specs.Gather.{Cut, none, telegram, refused, gatherOf}
 use Rattle.cutting.specs.Search.{spanOf, partOf}
 
 -- the ranges of a state: 0 to 65 bytes gathered, of 66
@@ -25,7 +25,7 @@ after g (item ∷ items) = after (gatherOf g item .0) items
 abbrev pub handing : Gatherer × Cut → List (List ℕ) → List (List ℕ)
 handing (g, none) later = later
 handing (g, telegram n) later = take n (g .bytes) ∷ later
-handing (g, refuses number place) later = later
+handing (g, refused x) later = later
 
 -- the telegrams that items hand out, in order
 unfoldable pub handed : Gatherer → List Heard → List (List ℕ)

@@ -3,7 +3,7 @@ use Prim.Native.Nat.{ℕ, _+_}
 use mathlib.Core.Bool.{cond}
 use lib.Dec.{ltb}
 use lib.ListN.{set, replicate}
-use Rattle.records.specs.Refusals.{numberOf, placeOf}
+use Rattle.records.specs.Refusals.{No, no, refusalOf}
 use Rattle.turns.specs.declared.turns.Turn.{Turn}
 use Rattle.turns.specs.declared.turns.Turn.the-variants.{Joins, Ends, Drops}
 use Rattle.cutting.specs.declared.gather.Heard.{Heard}
@@ -16,12 +16,12 @@ use Rattle.cutting.specs.declared.gather.Gathered as g
 pub data Cut : Type 0 where
   none : Cut
   telegram : ℕ → Cut
-  refuses : ℕ → ℕ → Cut
+  refused : No → Cut
 
 abbrev pub gatheredOf : g.Gathered → Cut
 gatheredOf g.the-variants.Nothing = none
 gatheredOf (g.the-variants.Telegram n) = telegram n
-gatheredOf (g.the-variants.Refused x) = refuses (numberOf x) (placeOf x)
+gatheredOf (g.the-variants.Refused x) = refused (refusalOf x)
 
 -- the state at the start, outside a telegram
 abbrev pub atStart : Gatherer
@@ -48,4 +48,4 @@ heardOf g Hit = (shut g, none)
 
 -- 15 where the state is out of its ranges, which stays as it was
 unfoldable pub gatherOf : Gatherer → Heard → Gatherer × Cut
-gatherOf g item = cond (ltb 65 (g .len)) (g, refuses 15 0) (heardOf g item)
+gatherOf g item = cond (ltb 65 (g .len)) (g, refused (no 15 0)) (heardOf g item)

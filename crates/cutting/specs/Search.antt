@@ -3,7 +3,7 @@ use Prim.Native.Nat.{ℕ, _+_, _-_}
 use mathlib.Core.Bool.{cond}
 use mathlib.Core.List.{List, [], _∷_}
 use lib.ListN.{length, take, drop}
-use Rattle.records.specs.Refusals.{numberOf, placeOf}
+use Rattle.records.specs.Refusals.{No, no, refusalOf}
 use Rattle.forms.specs.Forms.{isLine}
 use Rattle.reading.specs.Answers.{Answer, answerOf}
 use Rattle.reading.specs.Reading.{readingOf}
@@ -46,12 +46,12 @@ placed s span = (startOf span (length s), partOf s span)
 pub data Next : Type 0 where
   none : Next
   reads : ℕ → ℕ → Answer → Next
-  refuses : ℕ → ℕ → Next
+  refused : No → Next
 
 abbrev pub cuttingOf : c.Cutting → Next
 cuttingOf (c.the-variants.Read start end reading) = reads start end (answerOf reading)
 cuttingOf c.the-variants.Nothing = none
-cuttingOf (c.the-variants.Refused x) = refuses (numberOf x) (placeOf x)
+cuttingOf (c.the-variants.Refused x) = refused (refusalOf x)
 
 -- a cut telegram is then read
 abbrev pub readAt : ℕ → List ℕ → Span → Next
@@ -60,4 +60,4 @@ readAt line s Nothing = none
 
 -- 15 comes before all
 unfoldable pub nextOf : ℕ → List ℕ → ℕ → Next
-nextOf line s from = cond (isLine line) (readAt line s (spanOf s from)) (refuses 15 0)
+nextOf line s from = cond (isLine line) (readAt line s (spanOf s from)) (refused (no 15 0))

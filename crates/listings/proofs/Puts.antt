@@ -9,7 +9,8 @@ use lib.ListN.{length, take, drop, set, length-append}
 use lib.Seq.{length-take-le, take-at, drop-at, drop-drop, set-split}
 use borrow.Rule.Slice.PartMut.{putMid}
 use borrow.Author.Tests.{le-leb, lt-leb}
-use Rattle.reading.specs.Answers.{Answer, wrote, refusesTo}
+use Rattle.records.specs.Refusals.{no}
+use Rattle.reading.specs.Answers.{Answer, written, refused}
 use Rattle.writing.specs.Writing.{Write}
 use Rattle.listings.specs.Numbers.{puts}
 use Rattle.listings.specs.Lines.{lineText, lineRoom, putting, linePut}
@@ -45,12 +46,12 @@ part t ys out at end e l =
     rw (drop-drop (end - at) at out, k, e, l)
 
 -- no room for a line
-pub refused : (text out : List ℕ) → length out < lineRoom → (refusesTo 14 0, out) ≡ putting text out
+pub no-room : (text out : List ℕ) → length out < lineRoom → (refused (no 14 0), out) ≡ putting text out
 unfolding putting
-refused text out h = rw (lt-leb lineRoom (length out) h)
+no-room text out h = rw (lt-leb lineRoom (length out) h)
 
 -- a line from the front
 pub whole : (ordinal offset : ℕ) (answer : Answer) (out : List ℕ) (r : ℕ) (x : List ℕ) → lineRoom ≤ length out
-    → (r, x) ≡ puts (lineText ordinal offset answer) 0 out → (wrote r, x) ≡ linePut ordinal offset answer out
+    → (r, x) ≡ puts (lineText ordinal offset answer) 0 out → (written r, x) ≡ linePut ordinal offset answer out
 unfolding puts putting
-whole ordinal offset answer out r x h e = rw (le-leb lineRoom (length out) h) (rw (zero-add (length (lineText ordinal offset answer))) at (ap {B = Write} (λ (y : ℕ × List ℕ). (wrote (y .0), y .1)) e))
+whole ordinal offset answer out r x h e = rw (le-leb lineRoom (length out) h) (rw (zero-add (length (lineText ordinal offset answer))) at (ap {B = Write} (λ (y : ℕ × List ℕ). (written (y .0), y .1)) e))

@@ -4,9 +4,10 @@ use mathlib.Core.Bool.{cond}
 use mathlib.Core.List.{List, [], _∷_, _++_}
 use lib.Dec.{leb}
 use lib.ListN.{length, drop}
+use Rattle.records.specs.Refusals.{no}
 use Rattle.laws.specs.Text.{codes}
 use Rattle.records.specs.Records.{typeOf}
-use Rattle.reading.specs.Answers.{Answer, accepts, refuses, wrote, refusesTo}
+use Rattle.reading.specs.Answers.{Answer, accepted, refused, written}
 use Rattle.reading.specs.Frame.{lf}
 use Rattle.writing.specs.Writing.{Write}
 use Rattle.listings.specs.Numbers.{decimalText}
@@ -17,8 +18,8 @@ lastText n = codes " " ++ (decimalText n ++ (lf ∷ []))
 
 -- `ok`, type, number, or `no`, refusal, place; the type is printed as its byte
 abbrev pub answerText : Answer → List ℕ
-answerText (accepts rec number) = codes " ok " ++ ((typeOf rec ∷ []) ++ lastText number)
-answerText (refuses refusal place) = codes " no " ++ (decimalText refusal ++ lastText place)
+answerText (accepted rec number) = codes " ok " ++ ((typeOf rec ∷ []) ++ lastText number)
+answerText (refused x) = codes " no " ++ (decimalText (x .number) ++ lastText (x .place))
 
 -- ordinal, offset and what the telegram reads as
 unfoldable pub lineText : ℕ → ℕ → Answer → List ℕ
@@ -30,7 +31,7 @@ lineRoom = 87
 
 -- text from the front of an output with room for any line, with what lies behind it kept; else 14, and nothing is written
 unfoldable pub putting : List ℕ → List ℕ → Write
-putting text out = cond (leb lineRoom (length out)) (wrote (length text), text ++ drop (length text) out) (refusesTo 14 0, out)
+putting text out = cond (leb lineRoom (length out)) (written (length text), text ++ drop (length text) out) (refused (no 14 0), out)
 
 abbrev pub linePut : ℕ → ℕ → Answer → List ℕ → Write
 linePut ordinal offset answer = putting (lineText ordinal offset answer)

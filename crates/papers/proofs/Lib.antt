@@ -1,2 +1,6 @@
+pub mod Cases
+pub mod Counts
 pub mod Lines
 pub mod Set
+pub mod Order
+pub mod Receiver

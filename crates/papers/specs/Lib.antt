@@ -4,4 +4,3 @@ pub mod Lines
 pub mod Set
 pub mod Order
 pub mod Receiver
-pub mod Answers

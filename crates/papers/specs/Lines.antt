@@ -1,6 +1,6 @@
 -- The table of forms has the lines and senders of 01 'The three lines and both ends'. Assumes nothing.
-use mathlib.Core.Path.{_≡_, refl}
-use mathlib.Core.Bool.{Bool, true, cond, not}
+use mathlib.Core.Path.{_≡_}
+use mathlib.Core.Bool.{Bool, true, false, cond, not}
 use mathlib.Core.List.{List, [], _∷_}
 use Prim.Native.Nat.{ℕ}
 use Prim.Native.String.{String}
@@ -8,7 +8,7 @@ use lib.Dec.{eqb}
 use lib.ListN.{getD}
 use Rattle.laws.specs.Truth.{both, oneOf, every, All}
 use Rattle.laws.specs.Text.{codes}
-use Rattle.forms.specs.Forms.{forms, onLine, lookIn, formOf, byMaster, bySlave, dataIn, dataType}
+use Rattle.forms.specs.Forms.{forms, onLine, isLine, formOf, byMaster, bySlave, dataType}
 use Rattle.forms.specs.declared.table.Form.{Form}
 
 -- a line: what the master sends and what the slave sends
@@ -47,9 +47,8 @@ pub record Agrees (l : Line) : Type 0 where
   -- the slave's data type is B, 5 or K
   pub data-type : dataType (l .line) ≡ getD (l .slaves) 0 0
 
-pub same-lines : All Agrees paper
-unfolding forms onLine lookIn formOf dataIn dataType
-same-lines = search
+abbrev pub SameLines : Type 0
+SameLines = All Agrees paper
 
 -- two rows of one line are of two types
 abbrev pub differ : ℕ → Form → Form → Bool
@@ -60,11 +59,17 @@ apart line [] = true
 apart line (f ∷ fs) = both (every (differ line f) fs) (apart line fs)
 
 -- so no type has two rows on a line
-pub no-two-rows : every (λ (l : Line). apart (l .line) forms) paper ≡ true
-unfolding forms onLine
-no-two-rows = refl
+abbrev pub NoTwoRows : Type 0
+NoTwoRows = every (λ (l : Line). apart (l .line) forms) paper ≡ true
 
 -- of every byte: an end sends it as a type just where the paper lists it for that end
 pub record Exact (l : Line) : Type 0 where
   pub by-master : (b : ℕ) → byMaster (l .line) b ≡ oneOf (l .masters) b
   pub by-slave : (b : ℕ) → bySlave (l .line) b ≡ oneOf (l .slaves) b
+
+abbrev pub ExactLines : Type 0
+ExactLines = All Exact paper
+
+-- no type is on another line
+abbrev pub NoOtherLine : Type 0
+NoOtherLine = (line kind : ℕ) → isLine line ≡ false → formOf line kind .found ≡ false

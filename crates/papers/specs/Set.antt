@@ -1,11 +1,12 @@
 -- The limited character set of 01 'The telegram', counted, and the table's letters in it. Assumes nothing.
-use mathlib.Core.Path.{_≡_, refl}
+use mathlib.Core.Path.{_≡_}
 use mathlib.Core.Bool.{Bool, true, false, cond}
-use Prim.Native.Nat.{ℕ, zero, suc}
+use Prim.Native.Nat.{ℕ, zero, suc, _≤_}
 use Rattle.laws.specs.Truth.{both, every}
 use Rattle.characters.specs.Characters.{inSet}
-use Rattle.forms.specs.Forms.{forms, Slot, slotsIn, countOf, slotsOf}
+use Rattle.forms.specs.Forms.{forms, isLine, Slot, slotsOf}
 use Rattle.forms.specs.declared.table.Form.{Form}
+use Rattle.packets.specs.Packets.{permits}
 
 -- how many numbers under n pass a test
 abbrev pub howMany : (ℕ → Bool) → ℕ → ℕ
@@ -13,19 +14,24 @@ howMany p zero = 0
 howMany p (suc n) = cond (p n) (suc (howMany p n)) (howMany p n)
 
 -- the set has 75 codes
-pub seventy-five : howMany inSet 128 ≡ 75
-unfolding inSet
-seventy-five = refl
+abbrev pub SeventyFive : Type 0
+SeventyFive = howMany inSet 128 ≡ 75
+
+-- it is kept as a table of 128 entries: there is none behind it
+abbrev pub NoneFrom128 : Type 0
+NoneFrom128 = (b : ℕ) → 128 ≤ b → inSet b ≡ false
 
 -- the row ^ has no code in 001 and is not valid
-pub no-caret : inSet 0x5E ≡ false
-unfolding inSet
-no-caret = refl
+abbrev pub NoCaret : Type 0
+NoCaret = inSet 0x5E ≡ false
 
 -- a form's type and its packets' letters are of the set
 abbrev pub lettersIn : Form → Bool
 lettersIn f = both (inSet (f .kind)) (every (λ (p : Slot). inSet (p .letter)) (slotsOf f))
 
-pub letters-in-set : every lettersIn forms ≡ true
-unfolding inSet forms slotsIn countOf slotsOf
-letters-in-set = refl
+abbrev pub LettersInSet : Type 0
+LettersInSet = every lettersIn forms ≡ true
+
+-- every permitted byte of a value is a character of the set
+abbrev pub PermittedInSet : Type 0
+PermittedInSet = (line kind letter last at b : ℕ) → isLine line ≡ true → permits line kind letter last at b ≡ true → inSet b ≡ true

@@ -6,12 +6,13 @@ use Prim.Native.Nat.{ℕ, _+_, _-_}
 use lib.ListN.{length, getD}
 use native.Mathlib.Nat.{add-zero}
 use native.Mathlib.Omega.{arith}
+use Rattle.records.specs.Refusals.{No, no}
 use Rattle.forms.specs.Forms.{formOf, slotsOf, isLine}
 use Rattle.records.specs.Records.{recordOf}
 use Rattle.forms.specs.declared.table.Looked.{Looked}
 use Rattle.reading.specs.declared.answers.Spot.{Spot}
 use Rattle.reading.specs.declared.answers.Spot.the-variants.{Nowhere, At}
-use Rattle.reading.specs.Answers.{Answer, accepts, refuses, Fault, good, fault, firstFault, unless}
+use Rattle.reading.specs.Answers.{Answer, accepted, refused, Fault, good, fails, firstFault, unless}
 use Rattle.reading.specs.Frame.{needs, fieldOf, frameChecks}
 use Rattle.reading.specs.Field.{outside, misshapen, badValue, valuesIn, fieldChecks}
 use Rattle.reading.specs.Reading.{inForm, recordIn, contentsOf, checks, readingOf}
@@ -20,7 +21,7 @@ use Rattle.reading.specs.Reading.{inForm, recordIn, contentsOf, checks, 
 unfoldable answer : ℕ → ℕ → Looked → Spot → List ℕ → ℕ → Answer
 answer line kind l o d number =
     unless (firstFault 8 (needs (l .found) 3 ∷ o ∷ misshapen (l .form) d ∷ badValue line kind 5 (slotsOf (l .form)) d ∷ []))
-    (accepts (recordOf kind (valuesIn 10 (slotsOf (l .form)) d)) number)
+    (accepted (recordOf kind (valuesIn 10 (slotsOf (l .form)) d)) number)
 
 whole : (line : ℕ) (s : List ℕ) → answer line (getD s 3 0) (formOf line (getD s 3 0)) (outside 5 (fieldOf s)) (fieldOf s) (getD s 4 0 - 48) ≡ contentsOf line s
 unfolding answer contentsOf fieldChecks recordIn
@@ -30,11 +31,11 @@ module _ (line : ℕ) (s : List ℕ) (kind : ℕ) (looked : Looked) (e : kind �
   same : (o : Spot) (d : List ℕ) (number : ℕ) → o ≡ outside 5 (fieldOf s) → d ≡ fieldOf s → number ≡ getD s 4 0 - 48 → answer line kind looked o d number ≡ contentsOf line s
   same o d number g h k = let w = whole line s in let r : looked ≡ formOf line (getD s 3 0) = f ∙ ap (λ (x : ℕ). formOf line x) e in cc
 
-  pub strange-type : looked .found ≡ false → refuses 8 3 ≡ contentsOf line s
+  pub strange-type : looked .found ≡ false → refused (no 8 3) ≡ contentsOf line s
   unfolding answer
   strange-type h = rw (← (same (outside 5 (fieldOf s)) (fieldOf s) (getD s 4 0 - 48) refl refl refl), h)
 
-  pub strange-byte : looked .found ≡ true → (place : ℕ) → At place ≡ outside 5 (fieldOf s) → refuses 9 place ≡ contentsOf line s
+  pub strange-byte : looked .found ≡ true → (place : ℕ) → At place ≡ outside 5 (fieldOf s) → refused (no 9 place) ≡ contentsOf line s
   unfolding answer
   strange-byte h place g = rw (← (same (At place) (fieldOf s) (getD s 4 0 - 48) g refl refl), h)
 
@@ -46,7 +47,7 @@ module _ (line : ℕ) (s : List ℕ) (kind : ℕ) (looked : Looked) (e : kind �
 -- a row of checks behind another
 abbrev after : Fault → Fault → Fault
 after good f = f
-after (fault k place) f = fault k place
+after (fails x) f = fails x
 
 in-turn : (k : ℕ) (xs ys : List Spot) → firstFault k (xs ++ ys) ≡ after (firstFault k xs) (firstFault (k + length xs) ys)
 in-turn k [] ys = rw (add-zero k)
@@ -58,13 +59,13 @@ module _ (line : ℕ) (s : List ℕ) where
   unfolding checks frameChecks
   frame-then = in-turn 1 (frameChecks s) (fieldChecks line s)
 
-  pub no-line : isLine line ≡ false → refuses 15 0 ≡ readingOf line s
+  pub no-line : isLine line ≡ false → refused (no 15 0) ≡ readingOf line s
   unfolding readingOf
   no-line h = rw h
 
-  pub frame-bad : isLine line ≡ true → (k place : ℕ) → fault k place ≡ firstFault 1 (frameChecks s) → refuses k place ≡ readingOf line s
+  pub frame-bad : isLine line ≡ true → (x : No) → fails x ≡ firstFault 1 (frameChecks s) → refused x ≡ readingOf line s
   unfolding readingOf
-  frame-bad h k place g = rw (h, frame-then, ← g)
+  frame-bad h x g = rw (h, frame-then, ← g)
 
   pub frame-good : isLine line ≡ true → good ≡ firstFault 1 (frameChecks s) → contentsOf line s ≡ readingOf line s
   unfolding readingOf contentsOf

@@ -5,11 +5,12 @@ use mathlib.Core.List.{List, [], _∷_}
 use Prim.Native.Nat.{ℕ, _+_, _-_, _/_, _%_, _≤_, _<_}
 use lib.ListN.{length, drop, getD}
 use borrow.Author.Tests.{lt-leb, le-leb, eq-eqb, ne-eqb}
+use Rattle.records.specs.Refusals.{no}
 use Rattle.laws.specs.Truth.{oneOf}
 use Rattle.laws.specs.Text.{codes}
 use Rattle.laws.specs.Numerals.{numeralOn}
 use Rattle.characters.specs.Checksum.{hexOf, checkText, checksumOf}
-use Rattle.reading.specs.Answers.{good, fault, firstFault}
+use Rattle.reading.specs.Answers.{good, fails, firstFault}
 use Rattle.reading.specs.Frame.{isTwo, countText, frameChecks, summedOf}
 
 -- the two characters of the byte count
@@ -23,19 +24,19 @@ unfolding checkText
 sum-two sum high low e f = rw (e, f)
 
 module _ (s : List ℕ) where
-  pub short : length s < 10 → fault 1 0 ≡ firstFault 1 (frameChecks s)
+  pub short : length s < 10 → fails (no 1 0) ≡ firstFault 1 (frameChecks s)
   unfolding frameChecks
   short h = rw (lt-leb _ _ h)
 
-  pub long : 10 ≤ length s → 66 < length s → fault 2 0 ≡ firstFault 1 (frameChecks s)
+  pub long : 10 ≤ length s → 66 < length s → fails (no 2 0) ≡ firstFault 1 (frameChecks s)
   unfolding frameChecks
   long a h = rw (le-leb _ _ a, lt-leb _ _ h)
 
-  pub no-start : 10 ≤ length s → length s ≤ 66 → (getD s 0 0 ≡ 10 → ⊥) → fault 3 0 ≡ firstFault 1 (frameChecks s)
+  pub no-start : 10 ≤ length s → length s ≤ 66 → (getD s 0 0 ≡ 10 → ⊥) → fails (no 3 0) ≡ firstFault 1 (frameChecks s)
   unfolding frameChecks
   no-start a b h = rw (le-leb _ _ a, le-leb _ _ b, ne-eqb _ _ h)
 
-  pub bad-count : 10 ≤ length s → length s ≤ 66 → getD s 0 0 ≡ 10 → isTwo s 1 (countText (length s)) ≡ false → fault 4 1 ≡ firstFault 1 (frameChecks s)
+  pub bad-count : 10 ≤ length s → length s ≤ 66 → getD s 0 0 ≡ 10 → isTwo s 1 (countText (length s)) ≡ false → fails (no 4 1) ≡ firstFault 1 (frameChecks s)
   unfolding frameChecks
   bad-count a b c h = rw (le-leb _ _ a, le-leb _ _ b, eq-eqb _ _ c, h)
 
@@ -43,11 +44,11 @@ module _ (s : List ℕ) where
   unfolding frameChecks
   to-end a b c h = rw (le-leb _ _ a, le-leb _ _ b, eq-eqb _ _ c, h)
 
-  pub no-end : (getD s (length s - 1) 0 ≡ 13 → ⊥) → fault 5 (length s - 1) ≡ firstFault 5 (drop 4 (frameChecks s))
+  pub no-end : (getD s (length s - 1) 0 ≡ 13 → ⊥) → fails (no 5 (length s - 1)) ≡ firstFault 5 (drop 4 (frameChecks s))
   unfolding frameChecks
   no-end h = rw (ne-eqb _ _ h)
 
-  pub bad-sum : getD s (length s - 1) 0 ≡ 13 → isTwo s (length s - 3) (checkText (checksumOf (summedOf s))) ≡ false → fault 6 (length s - 3) ≡ firstFault 5 (drop 4 (frameChecks s))
+  pub bad-sum : getD s (length s - 1) 0 ≡ 13 → isTwo s (length s - 3) (checkText (checksumOf (summedOf s))) ≡ false → fails (no 6 (length s - 3)) ≡ firstFault 5 (drop 4 (frameChecks s))
   unfolding frameChecks
   bad-sum a h = rw (eq-eqb _ _ a, h)
 
@@ -57,6 +58,6 @@ module _ (s : List ℕ) where
   good-number a b h = rw (eq-eqb _ _ a, b, h)
 
   pub bad-number : getD s (length s - 1) 0 ≡ 13 → isTwo s (length s - 3) (checkText (checksumOf (summedOf s))) ≡ true → oneOf (codes "01") (getD s 4 0) ≡ false
-      → fault 7 4 ≡ firstFault 5 (drop 4 (frameChecks s))
+      → fails (no 7 4) ≡ firstFault 5 (drop 4 (frameChecks s))
   unfolding frameChecks
   bad-number a b h = rw (eq-eqb _ _ a, b, h)

@@ -4,3 +4,4 @@ pub mod Walk
 pub mod Filled
 pub mod Narrow
 pub mod Contents
+pub mod Apart

@@ -4,12 +4,13 @@ use Prim.Native.Char.{code}
 use mathlib.Core.Bool.{cond}
 use mathlib.Core.List.{List, [], _∷_, _++_}
 use lib.ListN.{getD}
+use Rattle.records.specs.Refusals.{no}
 use Rattle.forms.specs.Forms.{slotsOf, formOf, isLine}
 use Rattle.records.specs.Records.{recordOf}
 use Rattle.records.specs.declared.records.Record.{Record}
 use Rattle.forms.specs.declared.table.Form.{Form}
 use Rattle.reading.specs.declared.answers.Spot.{Spot}
-use Rattle.reading.specs.Answers.{Answer, accepts, refuses, firstFault, unless}
+use Rattle.reading.specs.Answers.{Answer, accepted, refused, firstFault, unless}
 use Rattle.reading.specs.Frame.{fieldOf, frameChecks}
 use Rattle.reading.specs.Field.{valuesIn, misshapen, badValue, fieldChecks}
 
@@ -20,11 +21,11 @@ recordIn line s = recordOf (getD s 3 0) (valuesIn 10 (slotsOf (formOf line (getD
 -- checks 10 and 11, and the record of a field that passes them
 unfoldable pub inForm : ℕ → ℕ → ℕ → List ℕ → Form → Answer
 inForm line kind number field f =
-    unless (firstFault 10 (misshapen f field ∷ badValue line kind 5 (slotsOf f) field ∷ [])) (accepts (recordOf kind (valuesIn 10 (slotsOf f) field)) number)
+    unless (firstFault 10 (misshapen f field ∷ badValue line kind 5 (slotsOf f) field ∷ [])) (accepted (recordOf kind (valuesIn 10 (slotsOf f) field)) number)
 
 -- checks 8 to 11, and the record and number of a telegram that passes them
 unfoldable pub contentsOf : ℕ → List ℕ → Answer
-contentsOf line s = unless (firstFault 8 (fieldChecks line s)) (accepts (recordIn line s) (getD s 4 0 - code "0"))
+contentsOf line s = unless (firstFault 8 (fieldChecks line s)) (accepted (recordIn line s) (getD s 4 0 - code "0"))
 
 -- reading checks 1 to 11 in order
 unfoldable pub checks : ℕ → List ℕ → List Spot
@@ -34,5 +35,5 @@ checks line s = frameChecks s ++ fieldChecks line s
 unfoldable pub readingOf : ℕ → List ℕ → Answer
 readingOf line s =
     cond (isLine line)
-    (unless (firstFault 1 (checks line s)) (accepts (recordIn line s) (getD s 4 0 - code "0")))
-    (refuses 15 0)
+    (unless (firstFault 1 (checks line s)) (accepted (recordIn line s) (getD s 4 0 - code "0")))
+    (refused (no 15 0))

@@ -1,43 +1,38 @@
--- The paper's number and place of each refusal (01 'Numbered answers'). Assumes nothing.
+-- A refusal in the paper's values: its number and its place (01 'Numbered answers'). Assumes nothing.
+use mathlib.Core.Path.{_≡_}
 use Prim.Native.Nat.{ℕ}
 use Rattle.records.specs.declared.refusals.Refusal.{Refusal}
 use Rattle.records.specs.declared.refusals.Refusal.the-variants.{Short, Long, NoStart, Count, NoEnd, Checksum, Number, Kind, Character, Form, Value, NotSent, Range, NoRoom, State, Busy, Full}
 
-abbrev pub numberOf : Refusal → ℕ
-numberOf Short = 1
-numberOf Long = 2
-numberOf NoStart = 3
-numberOf Count = 4
-numberOf (NoEnd place) = 5
-numberOf (Checksum place) = 6
-numberOf Number = 7
-numberOf Kind = 8
-numberOf (Character place) = 9
-numberOf (Form place) = 10
-numberOf (Value place) = 11
-numberOf NotSent = 12
-numberOf Range = 13
-numberOf NoRoom = 14
-numberOf State = 15
-numberOf Busy = 16
-numberOf Full = 17
+-- what every answer of every definition holds of a refusal
+pub record No : Type 0 where
+  pub number : ℕ
+  pub place : ℕ
 
--- the place of a refusal whose place the paper fixes, and the one that the others hold
-abbrev pub placeOf : Refusal → ℕ
-placeOf Short = 0
-placeOf Long = 0
-placeOf NoStart = 0
-placeOf Count = 1
-placeOf (NoEnd place) = place
-placeOf (Checksum place) = place
-placeOf Number = 4
-placeOf Kind = 3
-placeOf (Character place) = place
-placeOf (Form place) = place
-placeOf (Value place) = place
-placeOf NotSent = 0
-placeOf Range = 0
-placeOf NoRoom = 0
-placeOf State = 0
-placeOf Busy = 0
-placeOf Full = 0
+-- as the listing prints it: no, number, place
+abbrev pub no : ℕ → ℕ → No
+no number place = record { number = number; place = place }
+
+-- each case of the enum: its number, and the place that the paper fixes or that the case holds
+abbrev pub refusalOf : Refusal → No
+refusalOf Short = no 1 0
+refusalOf Long = no 2 0
+refusalOf NoStart = no 3 0
+refusalOf Count = no 4 1
+refusalOf (NoEnd place) = no 5 place
+refusalOf (Checksum place) = no 6 place
+refusalOf Number = no 7 4
+refusalOf Kind = no 8 3
+refusalOf (Character place) = no 9 place
+refusalOf (Form place) = no 10 place
+refusalOf (Value place) = no 11 place
+refusalOf NotSent = no 12 0
+refusalOf Range = no 13 0
+refusalOf NoRoom = no 14 0
+refusalOf State = no 15 0
+refusalOf Busy = no 16 0
+refusalOf Full = no 17 0
+
+-- number and place tell the refusals apart
+abbrev pub OneRefusal : Type 0
+OneRefusal = (x y : Refusal) → refusalOf x ≡ refusalOf y → x ≡ y

@@ -1,6 +1,6 @@
 // The refusals (01 'Numbered answers'), a case each; a case holds its place where the paper does not fix it.
 ghost use mathlib.Core.Path.{_≡_};
-ghost use Rattle.records.specs.Refusals.{numberOf, placeOf};
+ghost use Rattle.records.specs.Refusals.{refusalOf};
 
 pub enum Refusal {
     Short,
@@ -24,7 +24,7 @@ pub enum Refusal {
 
 // The paper's number of a refusal.
 pub fn number_of(refusal: Refusal) -> u8
-    ensures { λ r. ⌜ r ≡ numberOf refusal ⌝ }
+    ensures { λ r. ⌜ r ≡ refusalOf refusal .number ⌝ }
 {
     match refusal {
         Refusal::Short => 1,
@@ -49,7 +49,7 @@ pub fn number_of(refusal: Refusal) -> u8
 
 // The paper's place of a refusal.
 pub fn place_of(refusal: Refusal) -> usize
-    ensures { λ r. ⌜ r ≡ placeOf refusal ⌝ }
+    ensures { λ r. ⌜ r ≡ refusalOf refusal .place ⌝ }
 {
     match refusal {
         Refusal::Short => 0,

@@ -10,7 +10,7 @@ use borrow.Author.Tests.{eqb-true, eq-eqb}
 use Rattle.forms.specs.Forms.{isLine, formOf, slotsOf, widthOf}
 use Rattle.records.specs.declared.records.Record.{Record}
 use Rattle.forms.proofs.Found.{found-line}
-use Rattle.reading.specs.Answers.{accepts, firstFault}
+use Rattle.reading.specs.Answers.{accepted, firstFault}
 use Rattle.reading.specs.Frame.{fieldOf, frameChecks}
 use Rattle.reading.specs.Field.{outside, wrongLetter, misshapen, fieldChecks}
 use Rattle.reading.specs.Reading.{recordIn, checks, readingOf}
@@ -42,9 +42,9 @@ module _ (line : ℕ) (s : List ℕ) where
       }
 
   -- bytes that pass the checks are accepted
-  pub accepted : Framed s → Carried → readingOf line s ≡ accepts (recordIn line s) (getD s 4 0 - code "0")
+  pub passes-accepted : Framed s → Carried → readingOf line s ≡ accepted (recordIn line s) (getD s 4 0 - code "0")
   unfolding readingOf checks
-  accepted f c =
+  passes-accepted f c =
       rw (
         found-line line (getD s 3 0) (c .found),
         faultless-good 1 (checks line s) (faultless-append (frameChecks s) (fieldChecks line s) (framed-faultless s f) (carried-faultless c)),
@@ -58,7 +58,7 @@ module _ (line : ℕ) (s : List ℕ) where
     pub carries : recordIn line s ≡ rec
     pub numbered : getD s 4 0 - code "0" ≡ number
 
-  pub accepted-only : (rec : Record) (number : ℕ) → readingOf line s ≡ accepts rec number → Accepted rec number
+  pub accepted-only : (rec : Record) (number : ℕ) → readingOf line s ≡ accepted rec number → Accepted rec number
   unfolding readingOf checks
   accepted-only rec number h =
       let a = accepted-good (isLine line) (firstFault 1 (checks line s)) (recordIn line s) rec (getD s 4 0 - code "0") number h in

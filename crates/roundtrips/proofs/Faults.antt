@@ -4,10 +4,11 @@ use mathlib.Core.Bool.{Bool, true, false, cond}
 use mathlib.Core.List.{List, [], _∷_, _++_}
 use Prim.Native.Nat.{ℕ, zero, suc, _+_}
 use lib.ListN.{getD}
+use Rattle.records.specs.Refusals.{no}
 use Rattle.laws.specs.Truth.{All}
 use Rattle.laws.proofs.Truths.{clash}
 use Rattle.records.specs.declared.records.Record.{Record}
-use Rattle.reading.specs.Answers.{accepts, refuses, Fault, good, fault, firstFault, unless}
+use Rattle.reading.specs.Answers.{accepted, refused, Fault, good, fails, firstFault, unless}
 use Rattle.reading.specs.Frame.{needs}
 use Rattle.reading.specs.declared.answers.Spot.{Spot}
 use Rattle.reading.specs.declared.answers.Spot.the-variants.{Nowhere, At}
@@ -53,7 +54,7 @@ faultless-at (x ∷ spots) zero a = a .0
 faultless-at (x ∷ spots) (suc i) a = faultless-at spots i (a .1)
 
 -- what is accepted has no fault, and is what would be accepted
-pub accepted-good : (t : Bool) (f : Fault) (x r : Record) (m n : ℕ) → cond t (unless f (accepts x m)) (refuses 15 0) ≡ accepts r n → (f ≡ good) × (x ≡ r) × (m ≡ n)
+pub accepted-good : (t : Bool) (f : Fault) (x r : Record) (m n : ℕ) → cond t (unless f (accepted x m)) (refused (no 15 0)) ≡ accepted r n → (f ≡ good) × (x ≡ r) × (m ≡ n)
 accepted-good true good x r m n h = (refl, cc, cc)
-accepted-good true (fault k place) x r m n h = clash (cc)
+accepted-good true (fails y) x r m n h = clash (cc)
 accepted-good false f x r m n h = clash (cc)

@@ -7,13 +7,14 @@ use native.Mathlib.Omega.{arith}
 use lib.Dec.{ltb, leb}
 use lib.ListN.{length, drop}
 use borrow.Author.Tests.{lt-ltb, le-ltb, le-leb, lt-leb}
+use Rattle.records.specs.Refusals.{no}
 use Rattle.laws.specs.Truth.{both}
 use Rattle.forms.specs.Forms.{formOf, slotsOf, widthOf, isLine}
 use Rattle.records.specs.Records.{typeOf, valuesOf}
 use Rattle.values.specs.Values.{permitsRecord, lengthOf}
 use Rattle.records.specs.declared.records.Record.{Record}
 use Rattle.forms.specs.declared.table.Looked.{Looked}
-use Rattle.reading.specs.Answers.{wrote, refusesTo}
+use Rattle.reading.specs.Answers.{written, refused}
 use Rattle.reading.specs.Frame.{frameOf}
 use Rattle.reading.specs.Field.{dataOf}
 use Rattle.writing.specs.Writing.{Write, telegramOf, writingOf}
@@ -28,18 +29,18 @@ result line kind l vs lined permits number out =
     (cond (l .found)
     (cond (both permits (ltb number 2))
     (cond (leb (cond (l .found) (8 + widthOf (l .form)) 0) (length out))
-    (wrote (cond (l .found) (8 + widthOf (l .form)) 0), frameOf kind number (dataOf (slotsOf (l .form)) vs) ++ drop (cond (l .found) (8 + widthOf (l .form)) 0) out)
-    (refusesTo 14 0, out))
-    (refusesTo 13 0, out))
-    (refusesTo 12 0, out))
-    (refusesTo 15 0, out)
+    (written (cond (l .found) (8 + widthOf (l .form)) 0), frameOf kind number (dataOf (slotsOf (l .form)) vs) ++ drop (cond (l .found) (8 + widthOf (l .form)) 0) out)
+    (refused (no 14 0), out))
+    (refused (no 13 0), out))
+    (refused (no 12 0), out))
+    (refused (no 15 0), out)
 
 whole : (line : ℕ) (rec : Record) (number : ℕ) (out : List ℕ)
     → result line (typeOf rec) (formOf line (typeOf rec)) (valuesOf rec) (isLine line) (permitsRecord line rec) number out ≡ writingOf line rec number out
 unfolding result writingOf lengthOf telegramOf
 whole line rec number out = refl
 
-pub no-line : (line : ℕ) (rec : Record) (number : ℕ) (out : List ℕ) → isLine line ≡ false → (refusesTo 15 0, out) ≡ writingOf line rec number out
+pub no-line : (line : ℕ) (rec : Record) (number : ℕ) (out : List ℕ) → isLine line ≡ false → (refused (no 15 0), out) ≡ writingOf line rec number out
 unfolding writingOf
 no-line line rec number out h = rw h
 
@@ -48,24 +49,24 @@ module _ (line : ℕ) (rec : Record) (number : ℕ) (out : List ℕ) (kind : ℕ
   same : (vs : List ℕ) (p : Bool) → vs ≡ valuesOf rec → permitsRecord line rec ≡ p → result line kind looked vs true p number out ≡ writingOf line rec number out
   same vs p g h = let w = whole line rec number out in let r : looked ≡ formOf line (typeOf rec) = f ∙ ap (λ (x : ℕ). formOf line x) e in cc
 
-  pub not-sent : looked .found ≡ false → (refusesTo 12 0, out) ≡ writingOf line rec number out
+  pub not-sent : looked .found ≡ false → (refused (no 12 0), out) ≡ writingOf line rec number out
   unfolding result
   not-sent h = rw (← (same (valuesOf rec) (permitsRecord line rec) refl refl), h)
 
-  pub not-permitted : looked .found ≡ true → permitsRecord line rec ≡ false → (refusesTo 13 0, out) ≡ writingOf line rec number out
+  pub not-permitted : looked .found ≡ true → permitsRecord line rec ≡ false → (refused (no 13 0), out) ≡ writingOf line rec number out
   unfolding result
   not-permitted h p = rw (← (same (valuesOf rec) false refl p), h)
 
   module _ (h : looked .found ≡ true) (p : permitsRecord line rec ≡ true) where
-    pub no-number : 1 < number → (refusesTo 13 0, out) ≡ writingOf line rec number out
+    pub no-number : 1 < number → (refused (no 13 0), out) ≡ writingOf line rec number out
     unfolding result
     no-number g = rw (← (same (valuesOf rec) true refl p), h, le-ltb number 2 g)
 
-    pub no-room : number ≤ 1 → length out < 8 + widthOf (looked .form) → (refusesTo 14 0, out) ≡ writingOf line rec number out
+    pub no-room : number ≤ 1 → length out < 8 + widthOf (looked .form) → (refused (no 14 0), out) ≡ writingOf line rec number out
     unfolding result
     no-room g r = rw (← (same (valuesOf rec) true refl p), h, lt-ltb number 2 (small g), lt-leb _ _ r)
 
-    pub written : number ≤ 1 → 8 + widthOf (looked .form) ≤ length out → (vs : List ℕ) → vs ≡ valuesOf rec
-        → (wrote (8 + widthOf (looked .form)), frameOf kind number (dataOf (slotsOf (looked .form)) vs) ++ drop (8 + widthOf (looked .form)) out) ≡ writingOf line rec number out
+    pub in-full : number ≤ 1 → 8 + widthOf (looked .form) ≤ length out → (vs : List ℕ) → vs ≡ valuesOf rec
+        → (written (8 + widthOf (looked .form)), frameOf kind number (dataOf (slotsOf (looked .form)) vs) ++ drop (8 + widthOf (looked .form)) out) ≡ writingOf line rec number out
     unfolding result
-    written g r vs q = rw (← (same vs true q p), h, lt-ltb number 2 (small g), le-leb _ _ r)
+    in-full g r vs q = rw (← (same vs true q p), h, lt-ltb number 2 (small g), le-leb _ _ r)

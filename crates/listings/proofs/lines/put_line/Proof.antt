@@ -3,13 +3,13 @@ use native.Mathlib.Omega.{arith}
 use denote.Ref.{now}
 use Rattle.reading.specs.Answers.{answerOf}
 use Rattle.listings.specs.Lines.{lineText}
-use Rattle.listings.proofs.Puts.{then, refused, whole}
+use Rattle.listings.proofs.Puts.{then, no-room, whole}
 use borrow.Author.Needs.{needs}
 use Rattle.listings.proofs.lines.put_line.Statement.{statement}
 use Rattle.listings.proofs.lines.put_line.Tie as tie
 
 returns : tie.Need-returns
-returns c = refused _ _ (c .if1 .taken)
+returns c = no-room _ _ (c .if1 .taken)
 
 put-number-requires : tie.Need-put-number-requires
 put-number-requires c κs = search needs

@@ -27,10 +27,19 @@ contents-requires : tie.Need-contents-requires
 contents-requires c κs = search needs
 
 returns-2 : tie.Need-returns-2
-returns-2 c = frame-bad (c .before .before .before .before .before .before .before .args .line) (now (c .before .before .before .before .before .before .before .args .s)) (sym (c .before .before .before .before .before .is-line .ensures) ∙ not-false _ (c .before .before .before .before .if1 .left)) _ _ (sym (ap faultOf (c .before .check .given .1)) ∙ c .before .before .before .frame-check .ensures)
+returns-2 c =
+    let t = c .before .before .before .before in
+    let a = t .before .before .before .args in
+    frame-bad (a .line) (now (a .s)) (sym (t .before .is-line .ensures) ∙ not-false _ (t .if1 .left)) _
+    (sym (ap faultOf (c .before .check .given .1)) ∙ c .before .before .before .frame-check .ensures)
 
 returns-3 : tie.Need-returns-3
-returns-3 c = c .contents .ensures ∙ frame-good (c .before .before .before .before .before .before .before .args .line) (now (c .before .before .before .before .before .before .before .args .s)) (sym (c .before .before .before .before .before .is-line .ensures) ∙ not-false _ (c .before .before .before .before .if1 .left)) (sym (ap faultOf (c .before .enum-told .given .1)) ∙ c .before .before .before .frame-check .ensures)
+returns-3 c =
+    let t = c .before .before .before .before in
+    let a = t .before .before .before .args in
+    c .contents .ensures
+    ∙ frame-good (a .line) (now (a .s)) (sym (t .before .is-line .ensures) ∙ not-false _ (t .if1 .left))
+    (sym (ap faultOf (c .before .enum-told .given .1)) ∙ c .before .before .before .frame-check .ensures)
 
 pub read-spec : {M : Type 1} → statement M
 read-spec =

@@ -79,10 +79,10 @@ returns-8 : tie.Need-returns-8
 returns-8 c = search needs
 
 returns-9 : tie.Need-returns-9
-returns-9 c = search needs
+returns-9 c = rw (c .before .refusal3 .given .1)
 
 returns-10 : tie.Need-returns-10
-returns-10 c = search needs
+returns-10 c = rw (c .before .refusal4 .given .1)
 
 returns-11 : tie.Need-returns-11
 returns-11 c = rw (c .before .refusal5 .given .1)

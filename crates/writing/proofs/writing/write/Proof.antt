@@ -1,5 +1,5 @@
 -- `writing::writing::write` meets its contract. Assumes nothing.
-use Rattle.writing.proofs.Writes.{no-line, not-sent, not-permitted, no-number, no-room, written}
+use Rattle.writing.proofs.Writes.{no-line, not-sent, not-permitted, no-number, no-room, in-full}
 use Rattle.reading.specs.Answers.{Outcome}
 use Prim.Native.Nat.{ℕ}
 use mathlib.Core.List.{List}
@@ -56,7 +56,7 @@ same-length c = c .before .before .put-telegram .kept .0
 returns-6 : tie.Need-returns-6
 returns-6 c =
     let k = c .before .before .before .before .before .before .width-of .ensures .0 in
-    ap (λ (p : Outcome × List ℕ). p) (rw (k, c .before .before .put-telegram .ensures) (written (c .before .before .before .before .before .before .before .before .before .before .before .before .before .before .before .before .before .before .args .line) (c .before .before .before .before .before .before .before .before .before .before .before .before .before .before .before .before .before .before .args .rec) (c .before .before .before .before .before .before .before .before .before .before .before .before .before .before .before .before .before .before .args .number) (now (c .before .before .before .before .before .before .before .before .before .before .before .before .before .before .before .before .before .before .args .out)) (c .before .before .before .before .before .before .before .before .before .before .before .before .before .before .type-of .result) (c .before .before .before .before .before .before .before .before .before .before .before .before .before .form-of .result) (sym (c .before .before .before .before .before .before .before .before .before .before .before .before .before .before .before .before .is-line .ensures) ∙ not-false _ (c .before .before .before .before .before .before .before .before .before .before .before .before .before .before .before .if1 .left)) (c .before .before .before .before .before .before .before .before .before .before .before .before .before .before .type-of .ensures) (c .before .before .before .before .before .before .before .before .before .before .before .before .before .form-of .ensures) (not-false (c .before .before .before .before .before .before .before .before .before .before .before .before .before .form-of .result .found) (c .before .before .before .before .before .before .before .before .before .before .before .if2 .left)) (sym (c .before .before .before .before .before .before .before .before .before .before .permits-record .ensures) ∙ not-false _ (c .before .before .before .before .before .before .before .before .before .if3 .left)) (c .before .before .before .before .before .before .before .before .if4 .left) (omega arith) _ (c .before .before .before .values-of .ensures)))
+    ap (λ (p : Outcome × List ℕ). p) (rw (k, c .before .before .put-telegram .ensures) (in-full (c .before .before .before .before .before .before .before .before .before .before .before .before .before .before .before .before .before .before .args .line) (c .before .before .before .before .before .before .before .before .before .before .before .before .before .before .before .before .before .before .args .rec) (c .before .before .before .before .before .before .before .before .before .before .before .before .before .before .before .before .before .before .args .number) (now (c .before .before .before .before .before .before .before .before .before .before .before .before .before .before .before .before .before .before .args .out)) (c .before .before .before .before .before .before .before .before .before .before .before .before .before .before .type-of .result) (c .before .before .before .before .before .before .before .before .before .before .before .before .before .form-of .result) (sym (c .before .before .before .before .before .before .before .before .before .before .before .before .before .before .before .before .is-line .ensures) ∙ not-false _ (c .before .before .before .before .before .before .before .before .before .before .before .before .before .before .before .if1 .left)) (c .before .before .before .before .before .before .before .before .before .before .before .before .before .before .type-of .ensures) (c .before .before .before .before .before .before .before .before .before .before .before .before .before .form-of .ensures) (not-false (c .before .before .before .before .before .before .before .before .before .before .before .before .before .form-of .result .found) (c .before .before .before .before .before .before .before .before .before .before .before .if2 .left)) (sym (c .before .before .before .before .before .before .before .before .before .before .permits-record .ensures) ∙ not-false _ (c .before .before .before .before .before .before .before .before .before .if3 .left)) (c .before .before .before .before .before .before .before .before .if4 .left) (omega arith) _ (c .before .before .before .values-of .ensures)))
 
 pub write-spec : {M : Type 1} → statement M
 write-spec =

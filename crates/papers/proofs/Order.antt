@@ -1,0 +1,86 @@
+-- A refusal of reading is the first check that finds a fault. Assumes nothing.
+use mathlib.Core.Path.{_≡_, refl, sym, ap}
+use mathlib.Core.List.{List, [], _∷_}
+use Prim.Native.Nat.{ℕ, zero, suc, _+_, _-_, _<_}
+use native.Mathlib.Omega.{arith}
+use lib.ListN.{length, getD}
+use Rattle.records.specs.Refusals.{No, no}
+use Rattle.laws.specs.Numerals.{numeralOn}
+use Rattle.laws.proofs.Truths.{clash}
+use Rattle.characters.specs.Characters.{inSet}
+use Rattle.characters.specs.Checksum.{total, checksumOf, checkText}
+use Rattle.forms.specs.Forms.{forms, onLine, lookIn, formOf, slotsIn, countOf, slotsOf, widthIn, widthOf}
+use Rattle.packets.specs.Packets.{packetOf, permits}
+use Rattle.values.specs.Values.{permittedFrom, permitted}
+use Rattle.records.specs.declared.records.Record.{Record}
+use Rattle.reading.specs.declared.answers.Spot.{Spot}
+use Rattle.reading.specs.declared.answers.Spot.the-variants.{Nowhere, At}
+use Rattle.reading.specs.Answers.{accepted, refused, Fault, good, fails, firstFault, unless}
+use Rattle.reading.specs.Frame.{countText, summedOf, fieldOf, frameChecks}
+use Rattle.reading.specs.Field.{outside, wrongLetter, badValue, misshapen, fieldChecks}
+use Rattle.reading.specs.Reading.{checks, readingOf}
+use Rattle.roundtrips.proofs.Faults.{faultless-at}
+use Rattle.roundtrips.proofs.Checks.{accepted-only}
+use Rattle.reading.proofs.Contents as contents
+use Rattle.papers.specs.Order.{EveryRefusal, EachOccurs, Eleven, RefusedFirst, AcceptedClean, NoLine}
+
+pub every-refusal : EveryRefusal
+unfolding numeralOn inSet total checksumOf checkText forms onLine lookIn formOf slotsIn countOf slotsOf widthIn widthOf packetOf permits permittedFrom permitted countText summedOf fieldOf frameChecks outside wrongLetter badValue misshapen fieldChecks checks readingOf
+every-refusal = (refl, (refl, (refl, (refl, (refl, (refl, (refl, (refl, (refl, (refl, (refl, (refl, (refl, (refl, (refl, tt)))))))))))))))
+
+pub each-occurs : EachOccurs
+each-occurs = refl
+
+-- the first fault of a list whose first check has number j, by its index
+record FirstIn (spots : List Spot) (j k place : ℕ) : Type 0 where
+  index : ℕ
+  counted : k ≡ j + index
+  within : index < length spots
+  finds : getD spots index Nowhere ≡ At place
+  none-before : (i : ℕ) → i < index → getD spots i Nowhere ≡ Nowhere
+
+-- what the first fault of a list says of the list
+first-in : (spots : List Spot) (j k place : ℕ) → firstFault j spots ≡ fails (no k place) → FirstIn spots j k place
+first-in [] j k place h = clash (cc)
+first-in (Nowhere ∷ spots) j k place h =
+    let r : FirstIn spots (j + 1) k place = first-in spots (j + 1) k place h in
+    record {
+      index = suc (r .index);
+      counted = omega arith;
+      within = omega arith;
+      finds = r .finds;
+      none-before = elim [ zero ↦ λ _. refl | suc i ↦ λ l. r .none-before i (omega arith) ];
+    }
+first-in (At p ∷ spots) j k place h =
+    let q : no j p ≡ no k place = cc in
+    let e : j ≡ k = ap (λ (x : No). x .number) q in
+    let f : p ≡ place = ap (λ (x : No). x .place) q in
+    record { index = 0; counted = omega arith; within = omega arith; finds = cc; none-before = λ i l. let z : ⊥ = omega arith in absurd z }
+
+-- an answer that refuses has a fault
+refused-by : (f : Fault) (rec : Record) (n k place : ℕ) → unless f (accepted rec n) ≡ refused (no k place) → f ≡ fails (no k place)
+refused-by good rec n k place h = clash (cc)
+refused-by (fails x) rec n k place h = cc
+
+pub eleven : Eleven
+unfolding checks frameChecks fieldChecks
+eleven line s = refl
+
+pub refused-first : RefusedFirst
+unfolding readingOf
+refused-first line s k place l h =
+    let r : FirstIn (checks line s) 1 k place = first-in (checks line s) 1 k place (refused-by (firstFault 1 (checks line s)) _ _ k place (rw l at h)) in
+    let n = eleven line s in
+    let e : k - 1 ≡ r .index = omega arith in
+    record {
+      from-one = omega arith;
+      to-eleven = omega arith;
+      finds = rw e (r .finds);
+      none-before = λ i a b. r .none-before (i - 1) (omega arith);
+    }
+
+pub accepted-clean : AcceptedClean
+accepted-clean line s rec n h k = faultless-at (checks line s) (k - 1) (accepted-only line s rec n h .faultless)
+
+pub no-line : NoLine
+no-line line s l = sym (contents.no-line line s l)

@@ -1,0 +1,16 @@
+-- How many bytes a writing put, by its answer. Assumes nothing.
+use mathlib.Core.Path.{_≡_}
+use mathlib.Core.List.{List}
+use Prim.Native.Nat.{ℕ}
+use Rattle.records.specs.declared.refusals.Refusal.{Refusal}
+use Rattle.reading.specs.declared.answers.Writing.{Writing}
+use Rattle.reading.specs.declared.answers.Writing.the-variants.{Written, Refused}
+use Rattle.reading.specs.Answers.{outcomeOf}
+use Rattle.writing.specs.Writing.{Write, putBy}
+
+module _ (answer : Writing) (out : List ℕ) (w : Write) (h : (outcomeOf answer, out) ≡ w) where
+  pub put : (n : ℕ) → answer ≡ Written n → (n, out) ≡ putBy w
+  put n e = rw (← h, e)
+
+  pub put-none : (x : Refusal) → answer ≡ Refused x → (0, out) ≡ putBy w
+  put-none x e = rw (← h, e)
