@@ -27,6 +27,23 @@ typeOf (RadioData k) = code "K"
 typeOf (RadioUpdate k t) = code "O"
 typeOf (Transponder k w x y z) = code "1"
 
+-- the letter of the first packet (01 'Telegram forms')
+abbrev pub letterOf : Record → ℕ
+letterOf (Approved a) = code "A"
+letterOf (Rejected n) = code "N"
+letterOf (Request b) = code "B"
+letterOf (Idling b) = code "B"
+letterOf (Test m) = code "m"
+letterOf (Stop u) = code "U"
+letterOf (RadioFault s) = code "S"
+letterOf (Fault e) = code "E"
+letterOf (Position p) = code "P"
+letterOf (Train t) = code "T"
+letterOf (TrainData l p h r) = code "L"
+letterOf (RadioData k) = code "F"
+letterOf (RadioUpdate k t) = code "F"
+letterOf (Transponder k w x y z) = code "F"
+
 -- V's two characters as one number of base 256; 0 where one of them is no character
 unfoldable pub paired : ℕ → ℕ → ℕ
 paired left right = cond (ltb left 256) (cond (ltb right 256) (left * 256 + right) 0) 0

@@ -1,7 +1,8 @@
 // The records (01 'Telegram forms'): a case for each telegram form, and a number for each value that it carries.
 // A number is wide enough that a wrong one can be written down.
 ghost use mathlib.Core.Path.{_≡_};
-ghost use Rattle.records.specs.Records.{typeOf, valuesOf, recordOf, paired};
+ghost use lib.ListN.{length};
+ghost use Rattle.records.specs.Records.{typeOf, letterOf, fieldsOf, valuesOf, recordOf, paired};
 
 // The packets F D C M V P, which K, O and 1 share. V's two characters are left and right.
 pub struct Radio {
@@ -14,25 +15,40 @@ pub struct Radio {
     pub position: u32,
 }
 
+// Each case says the type letter of its telegram.
 pub enum Record {
+    // A
     Approved(u32),
+    // N
     Rejected(u32),
+    // r
     Request(u32),
+    // t
     Idling(u32),
+    // c
     Test(u32),
+    // 5
     Stop(u32),
+    // o
     RadioFault(u32),
+    // G
     Fault(u32),
+    // F
     Position(u32),
+    // n
     Train(u32),
+    // B
     TrainData {
         length: u32,
         braking: u32,
         speed: u32,
         direction: u32,
     },
+    // K
     RadioData(Radio),
+    // O
     RadioUpdate(Radio, u32),
+    // 1
     Transponder {
         radio: Radio,
         ceffect: u32,
@@ -72,6 +88,72 @@ pub fn type_of(rec: Record) -> u8
             sign: _,
             country: _,
         } => b'1',
+    }
+}
+
+// The letter of a record's first packet.
+pub fn letter_of(rec: Record) -> u8
+    ensures { λ r. ⌜ r ≡ letterOf rec ⌝ }
+{
+    match rec {
+        Record::Approved(_) => b'A',
+        Record::Rejected(_) => b'N',
+        Record::Request(_) => b'B',
+        Record::Idling(_) => b'B',
+        Record::Test(_) => b'm',
+        Record::Stop(_) => b'U',
+        Record::RadioFault(_) => b'S',
+        Record::Fault(_) => b'E',
+        Record::Position(_) => b'P',
+        Record::Train(_) => b'T',
+        Record::TrainData {
+            length: _,
+            braking: _,
+            speed: _,
+            direction: _,
+        } => b'L',
+        Record::RadioData(_) => b'F',
+        Record::RadioUpdate(_, _) => b'F',
+        Record::Transponder {
+            radio: _,
+            ceffect: _,
+            deffect: _,
+            sign: _,
+            country: _,
+        } => b'F',
+    }
+}
+
+// How many values a record has.
+pub fn count_of(rec: Record) -> usize
+    ensures { λ r. ⌜ r ≡ length (fieldsOf rec) ⌝ }
+{
+    match rec {
+        Record::Approved(_) => 1,
+        Record::Rejected(_) => 1,
+        Record::Request(_) => 1,
+        Record::Idling(_) => 1,
+        Record::Test(_) => 1,
+        Record::Stop(_) => 1,
+        Record::RadioFault(_) => 1,
+        Record::Fault(_) => 1,
+        Record::Position(_) => 1,
+        Record::Train(_) => 1,
+        Record::TrainData {
+            length: _,
+            braking: _,
+            speed: _,
+            direction: _,
+        } => 4,
+        Record::RadioData(_) => 6,
+        Record::RadioUpdate(_, _) => 7,
+        Record::Transponder {
+            radio: _,
+            ceffect: _,
+            deffect: _,
+            sign: _,
+            country: _,
+        } => 10,
     }
 }
 

@@ -125,7 +125,24 @@ returns-13 c = rw (c .before .match .keys13, c .radio-of3 .ensures)
 
 returns-14 : tie.Need-returns-14
 unfolding recordOf
-returns-14 c = rw (ne-eqb _ _ (c .match .rest .0 .0 .0 .0 .0 .0 .0 .0 .0 .0 .0 .0 .1), ne-eqb _ _ (c .match .rest .0 .0 .0 .0 .0 .0 .0 .0 .0 .0 .0 .1), ne-eqb _ _ (c .match .rest .0 .0 .0 .0 .0 .0 .0 .0 .0 .0 .1), ne-eqb _ _ (c .match .rest .0 .0 .0 .0 .0 .0 .0 .0 .0 .1), ne-eqb _ _ (c .match .rest .0 .0 .0 .0 .0 .0 .0 .0 .1), ne-eqb _ _ (c .match .rest .0 .0 .0 .0 .0 .0 .0 .1), ne-eqb _ _ (c .match .rest .0 .0 .0 .0 .0 .0 .1), ne-eqb _ _ (c .match .rest .0 .0 .0 .0 .0 .1), ne-eqb _ _ (c .match .rest .0 .0 .0 .0 .1), ne-eqb _ _ (c .match .rest .0 .0 .0 .1), ne-eqb _ _ (c .match .rest .0 .0 .1), ne-eqb _ _ (c .match .rest .0 .1), ne-eqb _ _ (c .match .rest .1))
+returns-14 c =
+    let m = c .match .rest in
+    let l = m .0 .0 .0 .0 .0 .0 in
+    rw (
+      ne-eqb _ _ (l .0 .0 .0 .0 .0 .0 .1),
+      ne-eqb _ _ (l .0 .0 .0 .0 .0 .1),
+      ne-eqb _ _ (l .0 .0 .0 .0 .1),
+      ne-eqb _ _ (l .0 .0 .0 .1),
+      ne-eqb _ _ (l .0 .0 .1),
+      ne-eqb _ _ (l .0 .1),
+      ne-eqb _ _ (l .1),
+      ne-eqb _ _ (m .0 .0 .0 .0 .0 .1),
+      ne-eqb _ _ (m .0 .0 .0 .0 .1),
+      ne-eqb _ _ (m .0 .0 .0 .1),
+      ne-eqb _ _ (m .0 .0 .1),
+      ne-eqb _ _ (m .0 .1),
+      ne-eqb _ _ (m .1),
+    )
 
 pub record-of-spec : {M : Type 1} → statement M
 record-of-spec =
