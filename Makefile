@@ -15,10 +15,10 @@ dist/%: $(shell find crates -name '*.rt' -o -name '*.antt') crates.txt
 	cp target/bin/$* $@
 
 list: dist/listing
-	@dist/listing < $(IN)
+	@tools/run dist/listing < $(IN)
 
 scene: dist/scenes
-	@dist/scenes < $(IN)
+	@tools/run dist/scenes < $(IN)
 
 demo: dist/scenes
 	@cargo run --offline --quiet --manifest-path host/Cargo.toml --bin demo dist/scenes $(LINE) $(SEED) $(SECONDS)

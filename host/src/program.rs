@@ -1,4 +1,4 @@
-//! The program `scenes`, asked a row at a time.
+//! Running the built programs; the program `scenes`, asked a row at a time.
 
 use crate::demo::Ends;
 use std::ffi::OsStr;
@@ -12,10 +12,17 @@ pub struct Program {
     output: BufReader<ChildStdout>,
 }
 
+/// The command that runs a built program: by `tools/run`, which knows what the machine needs.
+pub fn command(path: impl AsRef<OsStr>) -> Command {
+    let mut command = Command::new(concat!(env!("CARGO_MANIFEST_DIR"), "/../tools/run"));
+    command.arg(path);
+    command
+}
+
 impl Program {
     /// Starts the program at a path.
     pub fn start(path: impl AsRef<OsStr>) -> Result<Program> {
-        let mut child = Command::new(path)
+        let mut child = command(path)
             .stdin(Stdio::piped())
             .stdout(Stdio::piped())
             .spawn()?;

@@ -1,12 +1,13 @@
 //! Compares the built program `scenes` with the second version of the two ends: document 01,
 //! 'Link rules' and 'Numbered answers', and docs/SCENES.md for the rows.
 
+use host::program::command;
 use host::random::Random;
 use host::script::run;
 use host::scripting::script;
 use std::io::Write;
 use std::path::{Path, PathBuf};
-use std::process::{Command, Stdio};
+use std::process::Stdio;
 
 /// A path in the repository.
 fn repository(path: &str) -> PathBuf {
@@ -17,7 +18,7 @@ fn repository(path: &str) -> PathBuf {
 fn said(script: &str) -> String {
     let program = repository("target/bin/scenes");
     assert!(program.is_file(), "build the program scenes first");
-    let mut child = Command::new(program)
+    let mut child = command(program)
         .stdin(Stdio::piped())
         .stdout(Stdio::piped())
         .spawn()

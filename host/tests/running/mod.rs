@@ -5,10 +5,11 @@
 #![allow(dead_code)]
 
 use host::listing::listing;
+use host::program::command;
 use std::fs::{self, File};
 use std::io::{ErrorKind, Write};
 use std::path::{Path, PathBuf};
-use std::process::{ChildStdin, Command, Stdio};
+use std::process::{ChildStdin, Stdio};
 use std::time::Duration;
 
 /// Document 01's sample: digit 3 and the telegrams of cases a and i.
@@ -35,7 +36,7 @@ fn file_for(name: &str) -> PathBuf {
 /// What the program prints when standard input is given or fed from another thread; it must
 /// end by itself and print nothing to standard error.
 fn printed(stdin: Stdio, feed: impl FnOnce(ChildStdin) -> std::io::Result<()> + Send) -> Vec<u8> {
-    let mut child = Command::new(program())
+    let mut child = command(program())
         .stdin(stdin)
         .stdout(Stdio::piped())
         .stderr(Stdio::piped())
