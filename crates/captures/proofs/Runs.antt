@@ -4,6 +4,7 @@ use mathlib.Core.List.{List, [], _∷_, _++_, append-nil, append-assoc}
 use Prim.Native.Nat.{ℕ, _+_, _≤_}
 use native.Mathlib.Omega.{arith}
 use lib.ListN.{length, drop, length-append, length-drop}
+use Rattle.characters.specs.Marks.{unfinished}
 use Rattle.captures.specs.Pieces.{spansOn, spansOf, wrapped, linesIn, linesOf, keptFrom}
 use Rattle.captures.proofs.Whole.{lastEnd, nextOrdinal, in-two}
 
@@ -12,7 +13,7 @@ abbrev pub keptOf : List ℕ → ℕ
 keptOf s = keptFrom (lastEnd 0 (spansOf s 0)) (length s)
 
 -- so at most 65 bytes are kept, whatever the input's length
-pub few-kept : (s : List ℕ) → length (drop (keptOf s) s) ≤ 65
+pub few-kept : (s : List ℕ) → length (drop (keptOf s) s) ≤ unfinished
 few-kept s = omega (arith, length-drop (keptOf s) s)
 
 -- the lines of pieces, each listed behind the bytes kept of what came before it

@@ -8,7 +8,8 @@ use Rattle.cutting.specs.declared.search.Span.{Span}
 use Rattle.cutting.specs.declared.search.Span.the-variants.{Found, Nothing}
 use Rattle.cutting.specs.Search.{spanOf}
 use Rattle.cutting.proofs.Steps.{none-left}
-use Rattle.cutting.proofs.First.{First, span-first}
+use Rattle.cutting.specs.Telegrams.{First}
+use Rattle.cutting.proofs.First.{span-first}
 use Rattle.captures.specs.Pieces.{spanning, spansOn, spansOf}
 
 -- a telegram that is found lies behind the place and before the end

@@ -6,11 +6,12 @@ use native.Mathlib.Omega.{arith}
 use lib.ListN.{length, drop, getD, length-append, length-drop, List·getD-append}
 use lib.Seq.{take-append-le, drop-append-le}
 use Rattle.laws.proofs.Passes.{order}
+use Rattle.characters.specs.Marks.{unfinished}
 use Rattle.cutting.specs.declared.search.Span.{Span}
 use Rattle.cutting.specs.declared.search.Span.the-variants.{Found, Nothing}
 use Rattle.cutting.specs.Search.{spanOf}
-use Rattle.cutting.proofs.Openings.{Telegram}
-use Rattle.cutting.proofs.First.{First, span-first, search-answers}
+use Rattle.cutting.specs.Telegrams.{Telegram, First}
+use Rattle.cutting.proofs.First.{span-first, search-answers}
 use Rattle.captures.specs.Pieces.{spanning, spansOf, wrapped, lineAt, linesIn, linesOf, keptFrom}
 use Rattle.captures.proofs.Spans.{found-within, none-behind, spans-step}
 use Rattle.captures.proofs.Shifts.{lines-further}
@@ -59,7 +60,7 @@ module _ (a b : List ℕ) where
       (f .0, still o e (f .1), λ o′ e′ g t. order (length a) e′ (λ l. omega (arith, f .1 .within)) (λ m. f .2 o′ e′ g (before o′ e′ t m)))
 
   -- where none is found in a, one of a ++ b begins within the last 65 bytes of a or behind
-  late : (place o e : ℕ) → spanOf a place ≡ Nothing → place ≤ o → Telegram (a ++ b) o e → length a - 65 ≤ o
+  late : (place o e : ℕ) → spanOf a place ≡ Nothing → place ≤ o → Telegram (a ++ b) o e → length a - unfinished ≤ o
   late place o e h g t =
       let f : First a place Nothing = rw h at (span-first a place) in
       order (length a) e (λ l. omega (arith, t .short, t .long)) (λ m. absurd (f o e g (before o e t m)))

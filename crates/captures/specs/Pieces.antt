@@ -7,9 +7,9 @@ use lib.Dec.{leb}
 use lib.ListN.{length, take, drop}
 use Rattle.laws.specs.Truth.{from}
 use Rattle.laws.specs.Text.{codes}
+use Rattle.characters.specs.Marks.{lf, unfinished}
 use Rattle.forms.specs.Forms.{isLine}
 use Rattle.reading.specs.Answers.{Outcome, written, refused}
-use Rattle.reading.specs.Frame.{lf}
 use Rattle.reading.specs.Reading.{readingOf}
 use Rattle.cutting.specs.declared.search.Span.{Span}
 use Rattle.cutting.specs.declared.search.Span.the-variants.{Found, Nothing}
@@ -91,7 +91,7 @@ listPart line ordinal base s place out = listedIn line base s (spansOf s place) 
 
 -- where the bytes begin that are kept for the next piece: behind the last telegram, and an unfinished one has at most 65
 abbrev pub keptFrom : ℕ → ℕ → ℕ
-keptFrom end len = max end (len - 65)
+keptFrom end len = max end (len - unfinished)
 
 -- the bytes from a place up to an end, put to the front, with what lies behind them kept
 abbrev pub tailOf : ℕ → ℕ → List ℕ → List ℕ

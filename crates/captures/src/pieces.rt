@@ -2,6 +2,7 @@
 ghost use mathlib.Core.Path.{_≡_};
 ghost use lib.ListN.{length};
 ghost use Rattle.captures.specs.Pieces.{stepOf, listPart, keptFrom, tailOf, tailPut, lineDigit, badLine};
+use characters::marks::UNFINISHED;
 use characters::slices::less;
 use characters::slices::part;
 use cutting::search::Span;
@@ -99,7 +100,7 @@ pub fn list_part(line: u8, ordinal: u64, base: u64, s: &[u8], from: usize, out: 
 pub fn kept_from(end: usize, len: usize) -> usize
     ensures { λ r. ⌜ r ≡ keptFrom end len ⌝ }
 {
-    let last = less(len, 65);
+    let last = less(len, UNFINISHED);
     if end < last { last } else { end }
 }
 

@@ -1,2 +1,3 @@
 pub mod Characters
 pub mod Checksum
+pub mod Marks

@@ -14,7 +14,7 @@ use Rattle.cutting.specs.Gather.{atStart}
 use Rattle.cutting.specs.Search.{cutFrom, spanOf}
 use Rattle.turns.proofs.Cases.{Case, begins, skips, ends, drops, joins, turn-case}
 use Rattle.cutting.proofs.Steps.{none-left, on-ends, on-joins, on-drops}
-use Rattle.cutting.proofs.Streams.{fed, finding, searched}
+use Rattle.cutting.specs.Streams.{finding, searched, SameTelegrams}
 use Rattle.cutting.proofs.Ranges.{start-range}
 use Rattle.cutting.proofs.Held.{with, turning, gathered, by-held}
 
@@ -89,8 +89,7 @@ module _ (s : List ℕ) where
       turn u t (joins c d z v) e same =
           rw (on-joins s (length h) i (length h) u e, ← (joined-length h (getD s i 0))) (same n (with (length h) h (getD s i 0)) (omega arith) (joined-behind i h b u))
 
--- Feeding a slice's bytes to the step from the start hands out the same telegrams, byte for byte and in the same order, as repeated
--- searching, each search from the end of the last; as many searches as there are bytes are enough.
-pub same-telegrams : (s : List ℕ) (n : ℕ) → length s ≤ n → fed atStart s ≡ searched n s 0
+-- step and search hand out the same telegrams
+pub same-telegrams : SameTelegrams
 unfolding gathered
 same-telegrams s n h = by-held (map Byte s) atStart start-range ∙ go-on s (length s) n 0 (omega arith) h (λ m k. onwards s (length s) m 0 [] (omega arith) k (none-behind s 0))

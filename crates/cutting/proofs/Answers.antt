@@ -2,13 +2,13 @@
 use mathlib.Core.Path.{_≡_, refl}
 use Rattle.records.proofs.Apart.{one-refusal}
 use Rattle.reading.proofs.Apart.{one-reading}
-use Rattle.cutting.specs.Gather.{gatheredOf}
-use Rattle.cutting.specs.Search.{cuttingOf}
+use Rattle.cutting.specs.Gather.{OneGathered}
+use Rattle.cutting.specs.Search.{OneCutting}
 use Rattle.cutting.specs.declared.gather.Gathered as g
 use Rattle.cutting.specs.declared.search.Cutting as c
 
 -- a promise through these definitions allows one answer only: of a step
-pub one-gathered : (a b : g.Gathered) → gatheredOf a ≡ gatheredOf b → a ≡ b
+pub one-gathered : OneGathered
 one-gathered g.the-variants.Nothing g.the-variants.Nothing h = refl
 one-gathered g.the-variants.Nothing (g.the-variants.Telegram n) h = cc
 one-gathered g.the-variants.Nothing (g.the-variants.Refused y) h = cc
@@ -22,7 +22,7 @@ one-gathered (g.the-variants.Refused x) (g.the-variants.Refused y) h =
     cc
 
 -- of a call that cuts and reads
-pub one-cutting : (a b : c.Cutting) → cuttingOf a ≡ cuttingOf b → a ≡ b
+pub one-cutting : OneCutting
 one-cutting c.the-variants.Nothing c.the-variants.Nothing h = refl
 one-cutting c.the-variants.Nothing (c.the-variants.Read o e x) h = cc
 one-cutting c.the-variants.Nothing (c.the-variants.Refused y) h = cc

@@ -1,26 +1,22 @@
--- The search's answer, told without any machine (01 'Cutting the stream'). Assumes nothing.
+-- The search answers the first telegram from its place on. Assumes nothing.
 use mathlib.Core.Path.{_≡_, refl, sym, ap}
-use mathlib.Core.Logic.{⊎-elim, _↔_}
+use mathlib.Core.Logic.{⊎-elim}
 use mathlib.Core.List.{List, []}
 use Prim.Native.Nat.{ℕ, zero, suc, _+_, _-_, _≤_, _<_}
 use native.Mathlib.Omega.{arith}
 use lib.ListN.{length, drop, getD, length-drop}
 use lib.Seq.{length-take-le}
 use Rattle.laws.proofs.Passes.{order}
-use Rattle.reading.specs.Frame.{lf, cr}
+use Rattle.characters.specs.Marks.{lf, cr, unfinished}
 use Rattle.turns.specs.declared.turns.Turn.{Turn}
 use Rattle.cutting.specs.declared.search.Span.{Span}
 use Rattle.cutting.specs.declared.search.Span.the-variants.{Found, Nothing}
 use Rattle.turns.specs.Turns.{turnOf}
 use Rattle.cutting.specs.Search.{cutFrom, spanOf, partOf}
+use Rattle.cutting.specs.Telegrams.{Plain, Telegram, First, SearchAnswers, PartLength, EmptyPart}
 use Rattle.turns.proofs.Cases.{Case, begins, skips, ends, drops, joins, turn-case}
 use Rattle.cutting.proofs.Steps.{none-left, on-ends, on-joins, on-drops}
-use Rattle.cutting.proofs.Openings.{Plain, Telegram, Opening, apart, opening-of, telegram-of, one-opening, begun-at, longer, came}
-
--- the search hands back the telegram that ends first of those that begin at or behind its place, or says that none is left
-abbrev pub First : List ℕ → ℕ → Span → Type 0
-First s from (Found o e) = (from ≤ o) × Telegram s o e × ((o′ e′ : ℕ) → from ≤ o′ → Telegram s o′ e′ → e ≤ e′)
-First s from Nothing = (o′ e′ : ℕ) → from ≤ o′ → Telegram s o′ e′ → ⊥
+use Rattle.cutting.proofs.Openings.{Opening, apart, opening-of, telegram-of, one-opening, begun-at, longer, came}
 
 -- where the search stands at i with len bytes gathered: the openings there, and no telegram passed
 record Gathers (s : List ℕ) (from i len : ℕ) : Type 0 where
@@ -60,7 +56,7 @@ module _ (s : List ℕ) (from : ℕ) where
           order (i + 1) e (λ m. m)
           (λ m. let k = g .passed o e f t in let q : e - 1 ≡ i = omega arith in none o f (rw q at (opening-of s o e t)))
 
-  at-drops : (i len : ℕ) → Gathers s from i len → Plain (getD s i 0) → 65 ≤ len → Gathers s from (i + 1) 0
+  at-drops : (i len : ℕ) → Gathers s from i len → Plain (getD s i 0) → unfinished ≤ len → Gathers s from (i + 1) 0
   at-drops i len g b h = record { reach = omega (arith, g .reach); only = only; begun = λ k. let z : ⊥ = omega arith in absurd z; passed = not-cr i (b .1) (g .passed) }
     where
       only : (o : ℕ) → from ≤ o → Opening s o (i + 1) → o + 0 ≡ i + 1
@@ -68,7 +64,7 @@ module _ (s : List ℕ) (from : ℕ) where
           ⊎-elim (λ e. absurd (b .0 (rw e at (p .begins))))
           (λ w. let q = g .only o f (w .0) in let z : ⊥ = omega (arith, w .2) in absurd z) (came s o i p)
 
-  at-joins : (i len : ℕ) → Gathers s from i len → Plain (getD s i 0) → 0 < len → len < 65 → Gathers s from (i + 1) (len + 1)
+  at-joins : (i len : ℕ) → Gathers s from i len → Plain (getD s i 0) → 0 < len → len < unfinished → Gathers s from (i + 1) (len + 1)
   at-joins i len g b z h = record { reach = omega (arith, g .reach); only = only; begun = λ _. rw q (longer s (i - len) i (g .begun z) b (omega (arith, g .reach))); passed = not-cr i (b .1) (g .passed) }
     where
       q : i + 1 - (len + 1) ≡ i - len
@@ -108,22 +104,6 @@ module _ (s : List ℕ) (from : ℕ) where
       onwards (length s) from 0 (omega arith)
       record { reach = omega arith; only = λ o f p. let z : ⊥ = omega (arith, p .before) in absurd z; begun = λ h. let z : ⊥ = omega arith in absurd z; passed = λ o e f t. omega (arith, t .long) }
 
-  -- the part found is as long as its span, so it is empty just where none is left
-  pub part-length : (o e : ℕ) → spanOf s from ≡ Found o e → length (partOf s (Found o e)) ≡ e - o
-  part-length o e h =
-      let f : First s from (Found o e) = rw h at span-first in
-      length-take-le (e - o) (drop o s) (omega (arith, f .1 .within, length-drop o s))
-
-  pub empty-part : (partOf s (spanOf s from) ≡ []) ↔ (spanOf s from ≡ Nothing)
-  empty-part = (λ h. told (spanOf s from) refl h, λ h. rw h)
-    where
-      told : (p : Span) → spanOf s from ≡ p → partOf s p ≡ [] → p ≡ Nothing
-      told Nothing e h = refl
-      told (Found o e) q h =
-          let f : First s from (Found o e) = rw q at span-first in
-          let z : ⊥ = omega (arith, part-length o e q, ap length h, f .1 .long) in
-          absurd z
-
   -- the first is one
   one-first : (p q : Span) → First s from p → First s from q → p ≡ q
   one-first (Found o e) (Found o′ e′) (f, t, first) (f′, t′, first′) =
@@ -134,6 +114,23 @@ module _ (s : List ℕ) (from : ℕ) where
   one-first Nothing (Found o e) none (f, t, first) = absurd (none o e f t)
   one-first Nothing Nothing none none′ = refl
 
-  -- the search answers a span just where that span is the first telegram from its place on, and nothing just where there is none
-  pub search-answers : (p : Span) → (spanOf s from ≡ p) ↔ First s from p
-  search-answers p = (λ e. rw e at span-first, λ f. one-first (spanOf s from) p span-first f)
+-- the search answers a span just where that span is the first
+pub search-answers : SearchAnswers
+search-answers s from p = (λ e. rw e at (span-first s from), λ f. one-first s from (spanOf s from) p (span-first s from) f)
+
+-- the part found is as long as its span
+pub part-length : PartLength
+part-length s from o e h =
+    let f : First s from (Found o e) = rw h at (span-first s from) in
+    length-take-le (e - o) (drop o s) (omega (arith, f .1 .within, length-drop o s))
+
+-- so it is empty just where none is left
+pub empty-part : EmptyPart
+empty-part s from = (λ h. told (spanOf s from) refl h, λ h. rw h)
+  where
+    told : (p : Span) → spanOf s from ≡ p → partOf s p ≡ [] → p ≡ Nothing
+    told Nothing e h = refl
+    told (Found o e) q h =
+        let f : First s from (Found o e) = rw q at (span-first s from) in
+        let z : ⊥ = omega (arith, part-length s from o e q, ap length h, f .1 .long) in
+        absurd z

@@ -14,7 +14,7 @@ use Rattle.cutting.specs.declared.gather.Gatherer.{Gatherer}
 use Rattle.turns.specs.Turns.{turnOf}
 use Rattle.cutting.specs.Gather.{holding, shut, turned}
 use Rattle.turns.proofs.Cases.{joins-at, ends-at}
-use Rattle.cutting.proofs.Streams.{InRange, handing, handed}
+use Rattle.cutting.specs.Streams.{InRange, handing, handed}
 use Rattle.cutting.proofs.Ranges.{hears, turn-range}
 
 -- the bytes gathered so far
@@ -38,18 +38,18 @@ gathered h (Byte byte ∷ items) = turning (turnOf (length h) byte) h byte (λ h
 gathered h (Hit ∷ items) = gathered [] items
 
 held-length : (g : Gatherer) → InRange g → length (held g) ≡ g .len
-held-length g r = length-take-le (g .len) (g .bytes) (omega (arith, r .few, r .whole))
+held-length g r = length-take-le (g .len) (g .bytes) (omega (arith, r .few, r .room))
 
 -- a byte put at an index stands behind the bytes before it
 put-front : (g : Gatherer) (at byte : ℕ) → InRange g → at ≤ g .len → take (at + 1) (set (g .bytes) at byte) ≡ with at (held g) byte
 put-front g at byte r h =
-    rw (add-one at, take-take at (g .len) (g .bytes) h) (take-suc-set (g .bytes) at byte (omega (arith, r .few, r .whole)))
+    rw (add-one at, take-take at (g .len) (g .bytes) h) (take-suc-set (g .bytes) at byte (omega (arith, r .few, r .room)))
 
 -- so only the bytes held decide what is handed out
 pub by-held : (items : List Heard) (g : Gatherer) → InRange g → handed g items ≡ gathered (held g) items
 unfolding handed gathered
 by-held [] g r = refl
-by-held (Hit ∷ items) g r = rw (hears g Hit r) (by-held items (shut g) record { few = omega arith; whole = r .whole })
+by-held (Hit ∷ items) g r = rw (hears g Hit r) (by-held items (shut g) record { few = omega arith; room = r .room })
 by-held (Byte byte ∷ items) g r = rw (hears g (Byte byte) r, held-length g r) (turn (turnOf (g .len) byte) refl (λ g′. by-held items g′))
   where
     turn : (t : Turn) → turnOf (g .len) byte ≡ t → ((g′ : Gatherer) → InRange g′ → handed g′ items ≡ gathered (held g′) items)

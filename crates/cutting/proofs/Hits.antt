@@ -5,24 +5,19 @@ use Prim.Native.Nat.{ℕ, _+_, _≤_, _<_}
 use native.Mathlib.Omega.{arith}
 use lib.ListN.{length, length-append}
 use lib.Seq.{take-length}
-use Rattle.reading.specs.Frame.{lf, cr}
+use Rattle.characters.specs.Marks.{lf, cr, longest, unfinished}
 use Rattle.turns.specs.declared.turns.Turn.{Turn}
 use Rattle.turns.specs.declared.turns.Turn.the-variants.{Joins, Ends, Drops}
 use Rattle.cutting.specs.declared.gather.Heard.{Heard}
 use Rattle.cutting.specs.declared.gather.Heard.the-variants.{Byte, Hit}
-use Rattle.cutting.specs.declared.gather.Gatherer.{Gatherer}
 use Rattle.turns.specs.Turns.{turnOf}
-use Rattle.cutting.specs.Gather.{none, atStart, shut, gatherOf}
+use Rattle.cutting.specs.Gather.{atStart}
 use Rattle.turns.proofs.Cases.{Case, begins, skips, ends, drops, joins, turn-case}
-use Rattle.cutting.proofs.Openings.{Plain, apart}
-use Rattle.cutting.proofs.Streams.{InRange, handed}
+use Rattle.cutting.specs.Telegrams.{Plain, AllPlain, whole}
+use Rattle.cutting.specs.Streams.{handed, TelegramOut, HitStep, HitDrops, AfterHit}
+use Rattle.cutting.proofs.Openings.{apart}
 use Rattle.cutting.proofs.Ranges.{hears, start-range}
 use Rattle.cutting.proofs.Held.{held, with, turning, gathered, by-held}
-
--- each of the bytes is neither LF nor CR
-abbrev pub AllPlain : List ℕ → Type 0
-AllPlain [] = Unit {0}
-AllPlain (byte ∷ rest) = Plain byte × AllPlain rest
 
 -- what each byte does, by its kind
 lf-joins : (len : ℕ) → turnOf len lf ≡ Joins 0
@@ -45,7 +40,7 @@ cr-ends len h = go (turnOf len cr) (turn-case len cr)
     go t (drops l c m) = absurd (c refl)
     go t (joins l c z m) = absurd (c refl)
 
-plain-joins : (len byte : ℕ) → 0 < len → len < 65 → Plain byte → turnOf len byte ≡ Joins len
+plain-joins : (len byte : ℕ) → 0 < len → len < unfinished → Plain byte → turnOf len byte ≡ Joins len
 plain-joins len byte h k p = go (turnOf len byte) (turn-case len byte)
   where
     go : (t : Turn) → Case len byte t → t ≡ Joins len
@@ -55,12 +50,8 @@ plain-joins len byte h k p = go (turnOf len byte) (turn-case len byte)
     go t (drops l c m) = let y : ⊥ = omega arith in absurd y
     go t (joins l c z m) = refl
 
--- LF, these bytes, CR
-abbrev pub whole : List ℕ → List ℕ
-whole xs = lf ∷ (xs ++ (cr ∷ []))
-
 -- behind bytes that are held, others that are neither LF nor CR join them, and CR ends the telegram
-held-out : (xs h : List ℕ) (items : List Heard) → 0 < length h → length h + length xs ≤ 65 → AllPlain xs
+held-out : (xs h : List ℕ) (items : List Heard) → 0 < length h → length h + length xs ≤ unfinished → AllPlain xs
     → gathered h (map Byte (xs ++ (cr ∷ [])) ++ items) ≡ (h ++ (xs ++ (cr ∷ []))) ∷ gathered [] items
 unfolding gathered
 held-out [] h items z m p = rw (cr-ends (length h) z, take-length h)
@@ -70,19 +61,17 @@ held-out (x ∷ xs) h items z m p =
     ∙ ap (λ (t : List ℕ). t ∷ gathered [] items) (append-assoc h (x ∷ []) (xs ++ (cr ∷ []))))
 
 -- LF begins anew, whatever is held
-anew : (h xs : List ℕ) (items : List Heard) → length xs ≤ 64 → AllPlain xs → gathered h (map Byte (whole xs) ++ items) ≡ whole xs ∷ gathered [] items
+anew : (h xs : List ℕ) (items : List Heard) → length (whole xs) ≤ longest → AllPlain xs → gathered h (map Byte (whole xs) ++ items) ≡ whole xs ∷ gathered [] items
 unfolding gathered
-anew h xs items m p = rw (lf-joins (length h)) (held-out xs (lf ∷ []) items (omega arith) (omega arith) p)
+anew h xs items m p = rw (lf-joins (length h)) (held-out xs (lf ∷ []) items (omega arith) (omega (arith, length-append xs (cr ∷ []))) p)
 
--- From every state in its ranges, LF, then at most 64 bytes that are neither LF nor CR, then CR hand out just those bytes;
--- what is heard behind them is heard as from the start.
-pub telegram-out : (g : Gatherer) (xs : List ℕ) (items : List Heard) → InRange g → length xs ≤ 64 → AllPlain xs
-    → handed g (map Byte (whole xs) ++ items) ≡ whole xs ∷ handed atStart items
+-- so from every state in its ranges a whole telegram is handed out
+pub telegram-out : TelegramOut
 telegram-out g xs items r m p =
     by-held (map Byte (whole xs) ++ items) g r ∙ anew (held g) xs items m p ∙ ap (λ (ts : List (List ℕ)). whole xs ∷ ts) (sym (by-held items atStart start-range))
 
 -- a hit leaves no telegram begun and hands out nothing; the bytes stay
-pub hit-step : (g : Gatherer) → InRange g → gatherOf g Hit ≡ (shut g, none)
+pub hit-step : HitStep
 hit-step g r = hears g Hit r
 
 hit-held : (xs ys : List Heard) (h : List ℕ) → gathered h (xs ++ (Hit ∷ ys)) ≡ gathered h xs ++ gathered [] ys
@@ -97,13 +86,12 @@ hit-held (Byte byte ∷ xs) ys h = turn (turnOf (length h) byte) (λ h′. hit-h
     turn (Ends at) same = ap (λ (ts : List (List ℕ)). with at h byte ∷ ts) (same [])
     turn Drops same = same []
 
--- A hit drops what was begun and nothing else: what was handed out before it stays, and what comes behind it is heard as from the start.
-pub hit-drops : (g : Gatherer) (before later : List Heard) → InRange g → handed g (before ++ (Hit ∷ later)) ≡ handed g before ++ handed atStart later
+-- a hit drops what was begun and nothing else
+pub hit-drops : HitDrops
 hit-drops g before later r =
     by-held (before ++ (Hit ∷ later)) g r ∙ hit-held before later (held g) ∙ sym (rw (by-held before g r, by-held later atStart start-range))
 
 -- after it the next LF begins a telegram
-pub after-hit : (g : Gatherer) (before : List Heard) (xs : List ℕ) (items : List Heard) → InRange g → length xs ≤ 64 → AllPlain xs
-    → handed g (before ++ (Hit ∷ (map Byte (whole xs) ++ items))) ≡ handed g before ++ (whole xs ∷ handed atStart items)
+pub after-hit : AfterHit
 after-hit g before xs items r m p =
     hit-drops g before (map Byte (whole xs) ++ items) r ∙ ap (λ (ts : List (List ℕ)). handed g before ++ ts) (telegram-out atStart xs items start-range m p)

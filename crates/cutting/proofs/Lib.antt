@@ -2,7 +2,6 @@ pub mod Steps
 pub mod Readings
 pub mod Openings
 pub mod First
-pub mod Streams
 pub mod Ranges
 pub mod Held
 pub mod Hits

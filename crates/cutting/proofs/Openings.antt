@@ -1,4 +1,4 @@
--- Telegrams in bytes, told without any machine (01 'Cutting the stream'), and the bytes that begin one. Assumes nothing.
+-- The bytes that begin a telegram. Assumes nothing.
 use mathlib.Core.Path.{_≡_}
 use mathlib.Core.Logic.{_⊎_, inl, inr}
 use mathlib.Core.List.{List}
@@ -6,26 +6,14 @@ use Prim.Native.Nat.{ℕ, _+_, _-_, _≤_, _<_}
 use native.Mathlib.Omega.{arith}
 use lib.ListN.{length, getD}
 use Rattle.laws.proofs.Passes.{order}
-use Rattle.reading.specs.Frame.{lf, cr}
-
--- a byte that is neither LF nor CR
-abbrev pub Plain : ℕ → Type 0
-Plain byte = ¬ (byte ≡ lf) × ¬ (byte ≡ cr)
-
--- the bytes from o up to e: LF, then at most 64 bytes that are neither LF nor CR, then CR
-pub record Telegram (s : List ℕ) (o e : ℕ) : Type 0 where
-  pub begins : getD s o 0 ≡ lf
-  pub ends : getD s (e - 1) 0 ≡ cr
-  pub long : o + 2 ≤ e
-  pub short : e - o ≤ 66
-  pub within : e ≤ length s
-  pub between : (k : ℕ) → o < k → k < e - 1 → Plain (getD s k 0)
+use Rattle.characters.specs.Marks.{lf, cr, unfinished}
+use Rattle.cutting.specs.Telegrams.{Plain, Telegram}
 
 -- the bytes from o up to i: LF, then at most 64 bytes that are neither LF nor CR
 pub record Opening (s : List ℕ) (o i : ℕ) : Type 0 where
   pub begins : getD s o 0 ≡ lf
   pub before : o < i
-  pub short : i - o ≤ 65
+  pub short : i - o ≤ unfinished
   pub between : (k : ℕ) → o < k → k < i → Plain (getD s k 0)
 
 -- LF is not CR
@@ -54,14 +42,14 @@ module _ (s : List ℕ) where
   begun-at i l = record { begins = l; before = omega arith; short = omega arith; between = λ k a b. let z : ⊥ = omega arith in absurd z }
 
   -- a byte that is neither LF nor CR joins one of under 65 bytes
-  pub longer : (o i : ℕ) → Opening s o i → Plain (getD s i 0) → i - o < 65 → Opening s o (i + 1)
+  pub longer : (o i : ℕ) → Opening s o i → Plain (getD s i 0) → i - o < unfinished → Opening s o (i + 1)
   longer o i p b h = record { begins = p .begins; before = omega (arith, p .before); short = omega arith; between = inside }
     where
       inside : (k : ℕ) → o < k → k < i + 1 → Plain (getD s k 0)
       inside k a l = order k i (p .between k a) (λ m. let q : k ≡ i = omega arith in rw q b)
 
   -- and an opening came about in one of these two ways
-  pub came : (o i : ℕ) → Opening s o (i + 1) → (o ≡ i) ⊎ (Opening s o i × Plain (getD s i 0) × (i - o < 65))
+  pub came : (o i : ℕ) → Opening s o (i + 1) → (o ≡ i) ⊎ (Opening s o i × Plain (getD s i 0) × (i - o < unfinished))
   came o i p =
       order o i
       (λ l. inr (record { begins = p .begins; before = l; short = omega (arith, p .short); between = λ k a b. p .between k a (omega arith) }, p .between i l (omega arith), omega (arith, p .short)))

@@ -1,2 +1,4 @@
 pub mod Gather
 pub mod Search
+pub mod Telegrams
+pub mod Streams

@@ -1,5 +1,6 @@
 -- The search for the next telegram in bytes (01 'Cutting the stream'). Assumes nothing.
 use Prim.Native.Nat.{ℕ, _+_, _-_}
+use mathlib.Core.Path.{_≡_}
 use mathlib.Core.Bool.{cond}
 use mathlib.Core.List.{List, [], _∷_}
 use lib.ListN.{length, take, drop}
@@ -44,20 +45,24 @@ placed s span = (startOf span (length s), partOf s span)
 
 -- what cutting and reading finds: nothing, a telegram from start to end with what it reads as, or a refusal's number and place
 pub data Next : Type 0 where
-  none : Next
-  reads : ℕ → ℕ → Answer → Next
+  nothing : Next
+  read : ℕ → ℕ → Answer → Next
   refused : No → Next
 
 abbrev pub cuttingOf : c.Cutting → Next
-cuttingOf (c.the-variants.Read start end reading) = reads start end (answerOf reading)
-cuttingOf c.the-variants.Nothing = none
+cuttingOf (c.the-variants.Read start end reading) = read start end (answerOf reading)
+cuttingOf c.the-variants.Nothing = nothing
 cuttingOf (c.the-variants.Refused x) = refused (refusalOf x)
 
 -- a cut telegram is then read
 abbrev pub readAt : ℕ → List ℕ → Span → Next
-readAt line s (Found start end) = reads start end (readingOf line (partOf s (Found start end)))
-readAt line s Nothing = none
+readAt line s (Found start end) = read start end (readingOf line (partOf s (Found start end)))
+readAt line s Nothing = nothing
 
 -- 15 comes before all
 unfoldable pub nextOf : ℕ → List ℕ → ℕ → Next
 nextOf line s from = cond (isLine line) (readAt line s (spanOf s from)) (refused (no 15 0))
+
+-- a promise through these definitions allows one answer only
+abbrev pub OneCutting : Type 0
+OneCutting = (a b : c.Cutting) → cuttingOf a ≡ cuttingOf b → a ≡ b

@@ -1,8 +1,10 @@
 // Gathering a telegram item by item, in a state by value (01 'Cutting the stream').
 ghost use mathlib.Core.Path.{_≡_};
-ghost use Prim.Native.Nat.{_≤_, _<_};
+ghost use Prim.Native.Nat.{_<_};
+ghost use Rattle.characters.specs.Marks.{longest};
 ghost use Rattle.turns.specs.Turns.{turnOf};
 ghost use Rattle.cutting.specs.Gather.{gatheredOf, atStart, holding, shut, turned, gatherOf};
+use characters::marks::LONGEST;
 use records::refusals::Refusal;
 use turns::turns::Turn;
 use turns::turns::turn_of;
@@ -13,9 +15,9 @@ pub enum Heard {
     Hit,
 }
 
-// The bytes gathered so far, at most 65, and their number: 0 outside a telegram.
+// The bytes gathered so far and their number: 0 outside a telegram.
 pub struct Gatherer {
-    pub bytes: [u8; 66],
+    pub bytes: [u8; LONGEST],
     pub len: usize,
 }
 
@@ -38,14 +40,14 @@ impl Gatherer {
         ensures { λ r. ⌜ r ≡ atStart ⌝ }
     {
         Gatherer {
-            bytes: [0u8; 66],
+            bytes: [0u8; LONGEST],
             len: 0,
         }
     }
 
     // A byte put at an index, with so many bytes gathered.
     fn put(self, at: usize, byte: u8, len: usize) -> Gatherer
-        requires { ⌜ at < 66 ⌝ }
+        requires { ⌜ at < longest ⌝ }
         ensures { λ r. ⌜ r ≡ holding self at byte len ⌝ }
     {
         let mut bytes = self.bytes;
@@ -63,7 +65,7 @@ impl Gatherer {
 
     // One byte.
     fn hear(self, byte: u8) -> Step
-        requires { ⌜ self .len ≤ 65 ⌝ }
+        requires { ⌜ self .len < longest ⌝ }
         ensures { λ r. ⌜ (r .gatherer, gatheredOf (r .answer)) ≡ turned self byte (turnOf (self .len) byte) ⌝ }
     {
         let turn = turn_of(self.len, byte);
@@ -87,7 +89,7 @@ impl Gatherer {
     pub fn gather(self, item: Heard) -> Step
         ensures { λ r. ⌜ (r .gatherer, gatheredOf (r .answer)) ≡ gatherOf self item ⌝ }
     {
-        if 65 < self.len {
+        if LONGEST <= self.len {
             return Step {
                 gatherer: self,
                 answer: Gathered::Refused(Refusal::State),

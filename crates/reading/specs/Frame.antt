@@ -9,14 +9,9 @@ use Rattle.laws.specs.Truth.{both, oneOf}
 use Rattle.laws.specs.Text.{codes}
 use Rattle.laws.specs.Numerals.{numeral}
 use Rattle.characters.specs.Checksum.{checksumOf, checkText}
+pub use Rattle.characters.specs.Marks.{lf, cr}
 use Rattle.reading.specs.declared.answers.Spot.{Spot}
 use Rattle.reading.specs.declared.answers.Spot.the-variants.{Nowhere, At}
-
-abbrev pub lf : ℕ
-lf = 0x0A
-
-abbrev pub cr : ℕ
-cr = 0x0D
 
 -- the byte count of a telegram of n bytes: its length less 2, as two decimal digits
 unfoldable pub countText : ℕ → List ℕ

@@ -5,7 +5,7 @@ use Prim.Native.Nat.{ℕ, _≤_, _<_}
 use native.Mathlib.Omega.{arith}
 use lib.Dec.{eqb, leb}
 use borrow.Author.Tests.{eqb-true, eqb-false, leb-true, leb-false}
-use Rattle.reading.specs.Frame.{lf, cr}
+use Rattle.characters.specs.Marks.{lf, cr, unfinished}
 use Rattle.turns.specs.declared.turns.Turn.{Turn}
 use Rattle.turns.specs.declared.turns.Turn.the-variants.{Joins, Ends, Drops}
 use Rattle.turns.specs.Turns.{turnOf, pickTurn}
@@ -18,35 +18,35 @@ pub data Case (len byte : ℕ) : Turn → Type 0 where
   -- CR ends it
   ends : byte ≡ cr → 0 < len → Case len byte (Ends len)
   -- a 66th byte that is neither LF nor CR drops it
-  drops : ¬ (byte ≡ lf) → ¬ (byte ≡ cr) → 65 ≤ len → Case len byte Drops
+  drops : ¬ (byte ≡ lf) → ¬ (byte ≡ cr) → unfinished ≤ len → Case len byte Drops
   -- any other byte inside joins it
-  joins : ¬ (byte ≡ lf) → ¬ (byte ≡ cr) → 0 < len → len < 65 → Case len byte (Joins len)
+  joins : ¬ (byte ≡ lf) → ¬ (byte ≡ cr) → 0 < len → len < unfinished → Case len byte (Joins len)
 
 pub turn-case : (len byte : ℕ) → Case len byte (turnOf len byte)
 unfolding turnOf
 turn-case len byte = at-lf (eqb byte lf) (eqb-true byte lf) (eqb-false byte lf)
   where
-    at-limit : (t : Bool) → (t ≡ true → 65 ≤ len) → (t ≡ false → len < 65) → ¬ (byte ≡ lf) → ¬ (len ≡ 0) → ¬ (byte ≡ cr) → Case len byte (pickTurn t Drops (Joins len))
+    at-limit : (t : Bool) → (t ≡ true → unfinished ≤ len) → (t ≡ false → len < unfinished) → ¬ (byte ≡ lf) → ¬ (len ≡ 0) → ¬ (byte ≡ cr) → Case len byte (pickTurn t Drops (Joins len))
     at-limit true y n l z c = drops l c (y refl)
     at-limit false y n l z c = joins l c (omega arith) (n refl)
 
-    at-cr : (t : Bool) → (t ≡ true → byte ≡ cr) → (t ≡ false → ¬ (byte ≡ cr)) → ¬ (byte ≡ lf) → ¬ (len ≡ 0) → Case len byte (pickTurn t (Ends len) (pickTurn (leb 65 len) Drops (Joins len)))
+    at-cr : (t : Bool) → (t ≡ true → byte ≡ cr) → (t ≡ false → ¬ (byte ≡ cr)) → ¬ (byte ≡ lf) → ¬ (len ≡ 0) → Case len byte (pickTurn t (Ends len) (pickTurn (leb unfinished len) Drops (Joins len)))
     at-cr true y n l z = ends (y refl) (omega arith)
-    at-cr false y n l z = at-limit (leb 65 len) (leb-true 65 len) (leb-false 65 len) l z (n refl)
+    at-cr false y n l z = at-limit (leb unfinished len) (leb-true unfinished len) (leb-false unfinished len) l z (n refl)
 
-    outside : (t : Bool) → (t ≡ true → len ≡ 0) → (t ≡ false → ¬ (len ≡ 0)) → ¬ (byte ≡ lf) → Case len byte (pickTurn t Drops (pickTurn (eqb byte cr) (Ends len) (pickTurn (leb 65 len) Drops (Joins len))))
+    outside : (t : Bool) → (t ≡ true → len ≡ 0) → (t ≡ false → ¬ (len ≡ 0)) → ¬ (byte ≡ lf) → Case len byte (pickTurn t Drops (pickTurn (eqb byte cr) (Ends len) (pickTurn (leb unfinished len) Drops (Joins len))))
     outside true y n l = skips l (y refl)
     outside false y n l = at-cr (eqb byte cr) (eqb-true byte cr) (eqb-false byte cr) l (n refl)
 
-    at-lf : (t : Bool) → (t ≡ true → byte ≡ lf) → (t ≡ false → ¬ (byte ≡ lf)) → Case len byte (pickTurn t (Joins 0) (pickTurn (eqb len 0) Drops (pickTurn (eqb byte cr) (Ends len) (pickTurn (leb 65 len) Drops (Joins len)))))
+    at-lf : (t : Bool) → (t ≡ true → byte ≡ lf) → (t ≡ false → ¬ (byte ≡ lf)) → Case len byte (pickTurn t (Joins 0) (pickTurn (eqb len 0) Drops (pickTurn (eqb byte cr) (Ends len) (pickTurn (leb unfinished len) Drops (Joins len)))))
     at-lf true y n = begins (y refl)
     at-lf false y n = outside (eqb len 0) (eqb-true len 0) (eqb-false len 0) (n refl)
 
 -- a byte joins at an index under 65, and behind no more than the bytes gathered
-pub joins-at : (len byte at : ℕ) → turnOf len byte ≡ Joins at → (at ≤ len) × (at < 65)
+pub joins-at : (len byte at : ℕ) → turnOf len byte ≡ Joins at → (at ≤ len) × (at < unfinished)
 joins-at len byte at e = go (turnOf len byte) (turn-case len byte) e
   where
-    go : (t : Turn) → Case len byte t → t ≡ Joins at → (at ≤ len) × (at < 65)
+    go : (t : Turn) → Case len byte t → t ≡ Joins at → (at ≤ len) × (at < unfinished)
     go t (begins l) q = let x : 0 ≡ at = cc in (omega arith, omega arith)
     go t (joins l c z m) q = let x : len ≡ at = cc in (omega arith, omega arith)
     go t (skips l z) q = let z : _≡_ {A = ℕ} 0 1 = cc in let y : ⊥ = omega arith in absurd y

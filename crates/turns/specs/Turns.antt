@@ -2,7 +2,7 @@
 use Prim.Native.Nat.{ℕ}
 use mathlib.Core.Bool.{Bool, true, false}
 use lib.Dec.{leb, eqb}
-use Rattle.reading.specs.Frame.{lf, cr}
+use Rattle.characters.specs.Marks.{lf, cr, unfinished}
 use Rattle.turns.specs.declared.turns.Turn.{Turn}
 use Rattle.turns.specs.declared.turns.Turn.the-variants.{Joins, Ends, Drops}
 
@@ -16,5 +16,5 @@ turnOf len byte =
     pickTurn (eqb byte lf) (Joins 0)
     (pickTurn (eqb len 0) Drops
     (pickTurn (eqb byte cr) (Ends len)
-    (pickTurn (leb 65 len) Drops
+    (pickTurn (leb unfinished len) Drops
     (Joins len))))

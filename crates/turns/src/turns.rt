@@ -1,6 +1,9 @@
 // What one byte does to the telegram that is being gathered (01 'Cutting the stream'): the one rule of the step and the search.
 ghost use mathlib.Core.Path.{_≡_};
 ghost use Rattle.turns.specs.Turns.{turnOf};
+use characters::marks::CR;
+use characters::marks::LF;
+use characters::marks::UNFINISHED;
 
 pub enum Turn {
     // The byte is of the telegram, at this index: LF at 0.
@@ -16,7 +19,7 @@ pub fn turn_of(len: usize, byte: u8) -> Turn
     ensures { λ r. ⌜ r ≡ turnOf len byte ⌝ }
 {
     // LF begins a telegram, also inside another, which is dropped.
-    if byte == 10 {
+    if byte == LF {
         return Turn::Joins(0);
     }
     // Bytes outside a telegram are skipped.
@@ -24,11 +27,11 @@ pub fn turn_of(len: usize, byte: u8) -> Turn
         return Turn::Drops;
     }
     // CR ends it.
-    if byte == 13 {
+    if byte == CR {
         return Turn::Ends(len);
     }
     // A 66th byte that is neither LF nor CR drops it.
-    if 65 <= len {
+    if UNFINISHED <= len {
         return Turn::Drops;
     }
     Turn::Joins(len)

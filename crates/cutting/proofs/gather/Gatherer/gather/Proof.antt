@@ -1,5 +1,5 @@
 -- `gather` tests the state and matches the item as its definition does. Assumes nothing.
-use borrow.Author.Tests.{le-ltb}
+use borrow.Author.Tests.{lt-leb}
 use Rattle.laws.proofs.Tests.{tests}
 use Rattle.cutting.specs.Gather.{gatherOf}
 use borrow.Author.Needs.{needs}
@@ -24,11 +24,11 @@ close-requires c κs = search needs
 
 returns-2 : tie.Need-returns-2
 unfolding gatherOf
-returns-2 c = rw (le-ltb _ _ (c .before .before .before .before .if1 .left), c .before .before .item .given .1) (c .hear .ensures)
+returns-2 c = rw (lt-leb _ _ (c .before .before .before .before .if1 .left), c .before .before .item .given .1) (c .hear .ensures)
 
 returns-3 : tie.Need-returns-3
 unfolding gatherOf
-returns-3 c = rw (le-ltb _ _ (c .before .before .before .if1 .left), c .before .enum-told .given .1, c .close .ensures)
+returns-3 c = rw (lt-leb _ _ (c .before .before .before .if1 .left), c .before .enum-told .given .1, c .close .ensures)
 
 pub gather-spec : {M : Type 1} → statement M
 gather-spec =

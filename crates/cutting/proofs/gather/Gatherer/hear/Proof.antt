@@ -3,7 +3,7 @@ use mathlib.Core.Path.{sym, ap, _∙_}
 use Prim.Native.Nat.{_+_}
 use native.Mathlib.Omega.{arith}
 use Rattle.cutting.specs.declared.gather.Gatherer.{Gatherer}
-use Rattle.cutting.specs.Gather.{none, telegram, turned}
+use Rattle.cutting.specs.Gather.{nothing, telegram, turned}
 use Rattle.turns.proofs.Cases.{joins-at, ends-at}
 use borrow.Author.Needs.{needs}
 use Rattle.cutting.proofs.gather.Gatherer.hear.Statement.{statement}
@@ -39,7 +39,7 @@ close-requires c κs = search needs
 returns : tie.Need-returns
 returns c =
     let a = c .before .before .before .before .before .args in
-    ap (λ (g : Gatherer). (g, none)) (c .put .ensures) ∙ ap (turned (a .self) (a .byte)) (sym (c .before .before .turn .given .1) ∙ c .before .before .before .before .turn-of .ensures)
+    ap (λ (g : Gatherer). (g, nothing)) (c .put .ensures) ∙ ap (turned (a .self) (a .byte)) (sym (c .before .before .turn .given .1) ∙ c .before .before .before .before .turn-of .ensures)
 
 returns-2 : tie.Need-returns-2
 returns-2 c =
@@ -49,7 +49,7 @@ returns-2 c =
 returns-3 : tie.Need-returns-3
 returns-3 c =
     let a = c .before .before .before .before .args in
-    ap (λ (g : Gatherer). (g, none)) (c .close .ensures) ∙ ap (turned (a .self) (a .byte)) (sym (c .before .enum-told .given .1) ∙ c .before .before .before .turn-of .ensures)
+    ap (λ (g : Gatherer). (g, nothing)) (c .close .ensures) ∙ ap (turned (a .self) (a .byte)) (sym (c .before .enum-told .given .1) ∙ c .before .before .before .turn-of .ensures)
 
 pub hear-spec : {M : Type 1} → statement M
 hear-spec =
