@@ -7,25 +7,17 @@ use native.Mathlib.Nat.{le-of-suc-le-suc, not-suc-le-zero}
 use native.Mathlib.Numerals.{add-one}
 use lib.ListN.{length, drop, getD}
 use lib.Seq.{drop-cons}
-use Rattle.forms.specs.Forms.{lookIn, dataIn, isRow, isData}
+use Rattle.forms.specs.Forms.{lookIn}
 use Rattle.forms.specs.declared.table.Form.{Form}
 
-module _ (fs : List Form) (i : ℕ) (d : Form) (h : i < length fs) where
-  pub hit : (line kind : ℕ) → isRow (getD fs i d) line kind ≡ true → lookIn (drop i fs) line kind ≡ record { found = true; form = getD fs i d }
+module _ (fs : List Form) (i : ℕ) (d : Form) (test : Form → Bool) (h : i < length fs) where
+  pub hit : test (getD fs i d) ≡ true → lookIn (drop i fs) test ≡ record { found = true; form = getD fs i d }
   unfolding lookIn
-  hit line kind e = rw (drop-cons fs i d h, e)
+  hit e = rw (drop-cons fs i d h, e)
 
-  pub miss : (line kind : ℕ) → isRow (getD fs i d) line kind ≡ false → lookIn (drop i fs) line kind ≡ lookIn (drop (i + 1) fs) line kind
+  pub miss : test (getD fs i d) ≡ false → lookIn (drop i fs) test ≡ lookIn (drop (i + 1) fs) test
   unfolding lookIn
-  miss line kind e = rw (add-one, drop-cons fs i d h, e)
-
-  pub data-hit : (line : ℕ) → isData (getD fs i d) line ≡ true → dataIn (drop i fs) line ≡ getD fs i d .kind
-  unfolding dataIn
-  data-hit line e = rw (drop-cons fs i d h, e)
-
-  pub data-miss : (line : ℕ) → isData (getD fs i d) line ≡ false → dataIn (drop i fs) line ≡ dataIn (drop (i + 1) fs) line
-  unfolding dataIn
-  data-miss line e = rw (add-one, drop-cons fs i d h, e)
+  miss e = rw (add-one, drop-cons fs i d h, e)
 
 -- the tests of the slave's data, one after the other: the first that holds shuts a row out
 module _ (m a n o : Bool) (e : m ≡ false) where
@@ -37,9 +29,3 @@ module _ (m a n o : Bool) (e : m ≡ false) where
 
   pub is-other : a ≡ false → n ≡ false → o ≡ cond m false (cond a false (cond n false o))
   is-other h k = rw (e, h, k)
-
--- what stands within a list does not depend on what stands for what is missing
-pub within : {A : Type 0} (l : List A) (i : ℕ) (d e : A) → i < length l → getD l i d ≡ getD l i e
-within [] i d e h = absurd (not-suc-le-zero h)
-within (x ∷ l) zero d e h = refl
-within (x ∷ l) (suc i) d e h = within l i d e (le-of-suc-le-suc h)

@@ -9,6 +9,10 @@ use Rattle.laws.specs.Truth.{both, oneOf, pad}
 use Rattle.laws.specs.Text.{codes}
 use Rattle.forms.specs.declared.table.Form.{Form}
 use Rattle.forms.specs.declared.table.Looked.{Looked}
+use Rattle.forms.specs.declared.table.Sought.{Sought}
+use Rattle.forms.specs.declared.table.Sought.the-variants.{Kind, Letter, Data}
+use Rattle.forms.specs.declared.lines.Line.{Line}
+use Rattle.forms.specs.Lines.{lines, lineNumbers, isLine}
 
 -- who sends a form
 abbrev pub master : Bool
@@ -17,12 +21,12 @@ master = true
 abbrev pub slave : Bool
 slave = false
 
--- a row of the document's table: type, lines, sender, packet letters and value lengths
+-- a row of the document's table: type, the digits of its lines, sender, packet letters and value lengths
 abbrev pub row : Char → List ℕ → Bool → List ℕ → List ℕ → Form
-row kind lines sender letters lens =
+row kind on sender letters lens =
     record {
       kind = code kind;
-      lines = map (oneOf lines) (codes "123");
+      lines = map (λ (line : ℕ). oneOf on (code "0" + line)) lineNumbers;
       master = sender;
       count = length lens;
       letters = pad 10 letters;
@@ -49,47 +53,64 @@ forms =
 
 -- what stands for a row where none was found
 abbrev pub none : Form
-none = record { kind = 0; lines = false ∷ false ∷ false ∷ []; master = false; count = 0; letters = pad 10 []; lens = pad 10 [] }
-
--- there are lines 1, 2 and 3
-abbrev pub isLine : ℕ → Bool
-isLine line = cond (ltb line 1) false (ltb line 4)
+none = record { kind = 0; lines = map (λ (l : Line). false) lines; master = false; count = 0; letters = pad 10 []; lens = pad 10 [] }
 
 unfoldable pub onLine : Form → ℕ → Bool
-onLine f line = cond (ltb line 1) false (cond (ltb 3 line) false (getD (f .lines) (line - 1) false))
+onLine f line = cond (isLine line) (getD (f .lines) (line - 1) false) false
 
-abbrev pub isRow : Form → ℕ → ℕ → Bool
-isRow f line kind = both (eqb (f .kind) kind) (onLine f line)
+-- a form of a type on a line
+abbrev pub ofType : ℕ → ℕ → Form → Bool
+ofType line kind f = both (eqb (f .kind) kind) (onLine f line)
 
-unfoldable pub lookIn : List Form → ℕ → ℕ → Looked
-lookIn [] line kind = record { found = false; form = none }
-lookIn (f ∷ fs) line kind = cond (isRow f line kind) (record { found = true; form = f }) (lookIn fs line kind)
+-- the letter of its first packet
+abbrev pub firstLetter : Form → ℕ
+firstLetter f = getD (f .letters) 0 0
 
--- the row of a type on a line
-unfoldable pub formOf : ℕ → ℕ → Looked
-formOf line kind = lookIn forms line kind
+-- a form of a type on a line whose first packet has a letter
+abbrev pub ofLetter : ℕ → ℕ → ℕ → Form → Bool
+ofLetter line kind letter f = both (eqb (firstLetter f) letter) (ofType line kind f)
 
-abbrev pub byMaster : ℕ → ℕ → Bool
-byMaster line kind = both (formOf line kind .found) (formOf line kind .form .master)
-
-abbrev pub bySlave : ℕ → ℕ → Bool
-bySlave line kind = both (formOf line kind .found) (not (formOf line kind .form .master))
-
--- the slave sends it, and it is neither A nor N
-abbrev pub isData : Form → ℕ → Bool
-isData f line =
+-- the slave's data on a line: the slave sends it, and it is neither A nor N
+abbrev pub isData : ℕ → Form → Bool
+isData line f =
     cond (f .master) false
     (cond (eqb (f .kind) (code "A")) false
     (cond (eqb (f .kind) (code "N")) false
     (onLine f line)))
 
-unfoldable pub dataIn : List Form → ℕ → ℕ
-dataIn [] line = 0
-dataIn (f ∷ fs) line = cond (isData f line) (f .kind) (dataIn fs line)
+-- the test for what is looked for
+abbrev pub testOf : Sought → ℕ → Form → Bool
+testOf (Kind kind) line f = ofType line kind f
+testOf (Letter kind letter) line f = ofLetter line kind letter f
+testOf Data line f = isData line f
+
+-- the first row that passes a test
+unfoldable pub lookIn : List Form → (Form → Bool) → Looked
+lookIn [] test = record { found = false; form = none }
+lookIn (f ∷ fs) test = cond (test f) (record { found = true; form = f }) (lookIn fs test)
+
+-- what was found, or else what another search finds
+abbrev pub orElse : Looked → Looked → Looked
+orElse l m = cond (l .found) l m
+
+-- the first row of a type on a line
+unfoldable pub typeRow : ℕ → ℕ → Looked
+typeRow line kind = lookIn forms (ofType line kind)
+
+-- the row of a type on a line by the letter of its first packet; where no row has the letter, the type's first row
+unfoldable pub formOf : ℕ → ℕ → ℕ → Looked
+formOf line kind letter = orElse (lookIn forms (ofLetter line kind letter)) (typeRow line kind)
+
+-- who sends a type on a line
+abbrev pub byMaster : ℕ → ℕ → Bool
+byMaster line kind = both (typeRow line kind .found) (typeRow line kind .form .master)
+
+abbrev pub bySlave : ℕ → ℕ → Bool
+bySlave line kind = both (typeRow line kind .found) (not (typeRow line kind .form .master))
 
 -- the slave's data type on a line: B, 5 or K
 unfoldable pub dataType : ℕ → ℕ
-dataType line = dataIn forms line
+dataType line = lookIn forms (isData line) .form .kind
 
 -- a packet of a form: its letter, and how long its value is
 pub record Slot : Type 0 where

@@ -1,21 +1,25 @@
 // The telegram forms (01 'Telegram forms', 'The three lines and both ends'), one row each, and what they say of a line.
 ghost use mathlib.Core.Path.{_≡_};
 ghost use Prim.Native.Nat.{_≤_};
-ghost use lib.ListN.{getD};
-ghost use Rattle.forms.specs.Forms.{forms, none, isLine, onLine, formOf, byMaster, bySlave, dataType, countOf, widthOf};
+ghost use Rattle.forms.specs.Forms.{forms, onLine, ofType, ofLetter, isData, testOf, lookIn, formOf, byMaster, bySlave, dataType, countOf, widthOf};
+use crate::lines::LINE_COUNT;
+use crate::lines::is_line;
 use characters::slices::wide;
 
 // A form: its type, the lines it is on, whether the master sends it (else the slave does), and its packets' letters and value lengths.
 pub struct Form {
     pub kind: u8,
-    pub lines: [bool; 3],
+    pub lines: [bool; LINE_COUNT],
     pub master: bool,
     pub count: u8,
     pub letters: [u8; 10],
     pub lens: [u8; 10],
 }
 
-pub const FORMS: [Form; 14] = [
+// How many rows the table has.
+pub const ROW_COUNT: usize = 14;
+
+pub const FORMS: [Form; ROW_COUNT] = [
     Form {
         kind: b'A',
         lines: [true, true, true],
@@ -136,30 +140,28 @@ pub struct Looked {
     pub form: Form,
 }
 
-// Whether there is such a line.
-pub fn is_line(line: u8) -> bool
-    ensures { λ r. ⌜ r ≡ isLine line ⌝ }
-{
-    if line < 1 { false } else { line < 4 }
-}
-
 // Whether a form is on a line.
 pub fn on_line(form: Form, line: u8) -> bool
     ensures { λ r. ⌜ r ≡ onLine form line ⌝ }
 {
     let lines = form.lines;
-    if line < 1 {
-        return false;
+    if is_line(line) {
+        lines[(line - 1) as usize]
+    } else {
+        false
     }
-    if 3 < line {
-        return false;
-    }
-    lines[(line - 1) as usize]
 }
 
-// Whether a form is the one for this type on this line.
-fn is_row(form: Form, line: u8, kind: u8) -> bool
-    ensures { λ r. ⌜ r ≡ Rattle.forms.specs.Forms.isRow form line kind ⌝ }
+// What is looked for in the table: a row of a type, one whose first packet has a letter besides, or the slave's data.
+enum Sought {
+    Kind(u8),
+    Letter(u8, u8),
+    Data,
+}
+
+// Whether a form is of a type and on a line.
+fn of_type(form: Form, line: u8, kind: u8) -> bool
+    ensures { λ r. ⌜ r ≡ ofType line kind form ⌝ }
 {
     if form.kind == kind {
         on_line(form, line)
@@ -168,64 +170,13 @@ fn is_row(form: Form, line: u8, kind: u8) -> bool
     }
 }
 
-// A row of the table; past its end, a form of no type on no line.
-fn row_at(i: usize) -> Form
-    ensures { λ r. ⌜ r ≡ getD forms i none ⌝ }
+// Whether its first packet has a letter besides.
+fn of_letter(form: Form, line: u8, kind: u8, letter: u8) -> bool
+    ensures { λ r. ⌜ r ≡ ofLetter line kind letter form ⌝ }
 {
-    let table = FORMS;
-    if i < 14 {
-        return table[i];
-    }
-    Form {
-        kind: 0,
-        lines: [false; 3],
-        master: false,
-        count: 0,
-        letters: [0; 10],
-        lens: [0; 10],
-    }
-}
-
-// The row of a type on a line.
-pub fn form_of(line: u8, kind: u8) -> Looked
-    ensures { λ r. ⌜ r ≡ formOf line kind ⌝ }
-{
-    let mut i: usize = 0;
-    while i < 14 {
-        let form = row_at(i);
-        if is_row(form, line, kind) {
-            return Looked {
-                found: true,
-                form: form,
-            };
-        }
-        i = i + 1;
-    }
-    Looked {
-        found: false,
-        form: row_at(14),
-    }
-}
-
-// Whether the master sends this type on this line.
-pub fn by_master(line: u8, kind: u8) -> bool
-    ensures { λ r. ⌜ r ≡ byMaster line kind ⌝ }
-{
-    let looked = form_of(line, kind);
-    if looked.found {
-        looked.form.master
-    } else {
-        false
-    }
-}
-
-// Whether the slave sends this type on this line.
-pub fn by_slave(line: u8, kind: u8) -> bool
-    ensures { λ r. ⌜ r ≡ bySlave line kind ⌝ }
-{
-    let looked = form_of(line, kind);
-    if looked.found {
-        !looked.form.master
+    let letters = form.letters;
+    if letters[0] == letter {
+        of_type(form, line, kind)
     } else {
         false
     }
@@ -233,7 +184,7 @@ pub fn by_slave(line: u8, kind: u8) -> bool
 
 // Whether a form is the slave's data on a line: the slave sends it, and it is neither A nor N.
 fn is_data(form: Form, line: u8) -> bool
-    ensures { λ r. ⌜ r ≡ Rattle.forms.specs.Forms.isData form line ⌝ }
+    ensures { λ r. ⌜ r ≡ isData line form ⌝ }
 {
     if form.master {
         return false;
@@ -247,19 +198,87 @@ fn is_data(form: Form, line: u8) -> bool
     on_line(form, line)
 }
 
+// Whether a form on a line is what is looked for.
+fn fits(form: Form, line: u8, sought: Sought) -> bool
+    ensures { λ r. ⌜ r ≡ testOf sought line form ⌝ }
+{
+    match sought {
+        Sought::Kind(kind) => of_type(form, line, kind),
+        Sought::Letter(kind, letter) => of_letter(form, line, kind, letter),
+        Sought::Data => is_data(form, line),
+    }
+}
+
+// The first row that is what is looked for; where there is none, a form of no type on no line.
+fn look(line: u8, sought: Sought) -> Looked
+    ensures { λ r. ⌜ r ≡ lookIn forms (testOf sought line) ⌝ }
+{
+    let table = FORMS;
+    let mut i: usize = 0;
+    while i < ROW_COUNT {
+        let form = table[i];
+        if fits(form, line, sought) {
+            return Looked {
+                found: true,
+                form: form,
+            };
+        }
+        i = i + 1;
+    }
+    Looked {
+        found: false,
+        form: Form {
+            kind: 0,
+            lines: [false; LINE_COUNT],
+            master: false,
+            count: 0,
+            letters: [0; 10],
+            lens: [0; 10],
+        },
+    }
+}
+
+// The row of a type on a line by the letter of its first packet; where no row has the letter, the type's first row.
+pub fn form_of(line: u8, kind: u8, letter: u8) -> Looked
+    ensures { λ r. ⌜ r ≡ formOf line kind letter ⌝ }
+{
+    let looked = look(line, Sought::Letter(kind, letter));
+    if looked.found {
+        return looked;
+    }
+    look(line, Sought::Kind(kind))
+}
+
+// Whether the master sends this type on this line.
+pub fn by_master(line: u8, kind: u8) -> bool
+    ensures { λ r. ⌜ r ≡ byMaster line kind ⌝ }
+{
+    let looked = look(line, Sought::Kind(kind));
+    if looked.found {
+        looked.form.master
+    } else {
+        false
+    }
+}
+
+// Whether the slave sends this type on this line.
+pub fn by_slave(line: u8, kind: u8) -> bool
+    ensures { λ r. ⌜ r ≡ bySlave line kind ⌝ }
+{
+    let looked = look(line, Sought::Kind(kind));
+    if looked.found {
+        !looked.form.master
+    } else {
+        false
+    }
+}
+
 // The slave's data type on a line (B, 5 or K), 0 where there is no such line.
 pub fn data_type(line: u8) -> u8
     ensures { λ r. ⌜ r ≡ dataType line ⌝ }
 {
-    let mut i: usize = 0;
-    while i < 14 {
-        let form = row_at(i);
-        if is_data(form, line) {
-            return form.kind;
-        }
-        i = i + 1;
-    }
-    0
+    let looked = look(line, Sought::Data);
+    looked.form.kind
 }
 
 // How many packets a form has, at most ten.
