@@ -65,7 +65,13 @@ module _ (s : List ℕ) (from : ℕ) where
           (λ w. let q = g .only o f (w .0) in let z : ⊥ = omega (arith, w .2) in absurd z) (came s o i p)
 
   at-joins : (i len : ℕ) → Gathers s from i len → Plain (getD s i 0) → 0 < len → len < unfinished → Gathers s from (i + 1) (len + 1)
-  at-joins i len g b z h = record { reach = omega (arith, g .reach); only = only; begun = λ _. rw q (longer s (i - len) i (g .begun z) b (omega (arith, g .reach))); passed = not-cr i (b .1) (g .passed) }
+  at-joins i len g b z h =
+      record {
+        reach = omega (arith, g .reach);
+        only = only;
+        begun = λ _. rw q (longer s (i - len) i (g .begun z) b (omega (arith, g .reach)));
+        passed = not-cr i (b .1) (g .passed);
+      }
     where
       q : i + 1 - (len + 1) ≡ i - len
       q = omega arith

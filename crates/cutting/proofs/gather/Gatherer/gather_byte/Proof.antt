@@ -44,7 +44,10 @@ returns c =
 returns-2 : tie.Need-returns-2
 returns-2 c =
     let a = c .before .before .before .before .before .args in
-    ap (λ (g : Gatherer). (g, telegram (c .before .before .turn2 .given .0 .0 + 1))) (c .put2 .ensures) ∙ ap (turned (a .self) (a .byte)) (sym (c .before .before .turn2 .given .1) ∙ c .before .before .before .before .turn-of .ensures)
+    let turn-of = c .before .before .before .before .turn-of in
+    let turn2 = c .before .before .turn2 in
+    ap (λ (g : Gatherer). (g, telegram (turn2 .given .0 .0 + 1))) (c .put2 .ensures)
+    ∙ ap (turned (a .self) (a .byte)) (sym (turn2 .given .1) ∙ turn-of .ensures)
 
 returns-3 : tie.Need-returns-3
 returns-3 c =
