@@ -220,9 +220,9 @@ def filled(text, room):
     return lines
 
 
-def broken(line, limit):
-    """A line over the limit as several."""
-    if len(line) <= limit or line.lstrip().startswith('--'):
+def broken(line):
+    """A line that is too wide as several; a bound path stays as it is."""
+    if len(line) <= WIDTH or re.match(r'\s*(--|let \S+ = \w+(?: \.before)+ \.\S+ in$)', line):
         return [line]
     pad, text = ' ' * indent_of(line), line.strip()
     inner = pad + '    '
@@ -265,7 +265,7 @@ def rewritten(text, limit):
                 lets, body = bound(root, body)
             part = [m.group(0).rstrip()] + [pad + '    ' + x for x in lets] + body.split('\n')
         for line in part:
-            out += broken(line, limit)
+            out += broken(line)
     out += lines[last:]
     return '\n'.join(out)
 

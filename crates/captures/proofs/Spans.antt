@@ -8,14 +8,14 @@ use Rattle.cutting.specs.declared.search.Span.{Span}
 use Rattle.cutting.specs.declared.search.Span.the-variants.{Found, Nothing}
 use Rattle.cutting.specs.Search.{spanOf}
 use Rattle.cutting.proofs.Steps.{none-left}
-use Rattle.cutting.specs.Telegrams.{First}
+use Rattle.cutting.specs.Telegrams.{FirstTelegram}
 use Rattle.cutting.proofs.First.{span-first}
 use Rattle.captures.specs.Pieces.{spanning, spansOn, spansOf}
 
 -- a telegram that is found lies behind the place and before the end
 pub found-within : (s : List ℕ) (place start end : ℕ) → spanOf s place ≡ Found start end → (place ≤ start) × (start + 2 ≤ end) × (end ≤ length s)
 found-within s place start end h =
-    let f : First s place (Found start end) = rw h at (span-first s place) in
+    let f : FirstTelegram s place (Found start end) = rw h at (span-first s place) in
     (f .0, f .1 .long, f .1 .within)
 
 -- behind the end none is found

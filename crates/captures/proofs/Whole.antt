@@ -10,7 +10,7 @@ use Rattle.characters.specs.Marks.{unfinished}
 use Rattle.cutting.specs.declared.search.Span.{Span}
 use Rattle.cutting.specs.declared.search.Span.the-variants.{Found, Nothing}
 use Rattle.cutting.specs.Search.{spanOf}
-use Rattle.cutting.specs.Telegrams.{Telegram, First}
+use Rattle.cutting.specs.Telegrams.{Telegram, FirstTelegram}
 use Rattle.cutting.proofs.First.{span-first, search-answers}
 use Rattle.captures.specs.Pieces.{spanning, spansOf, wrapped, lineAt, linesIn, linesOf, keptFrom}
 use Rattle.captures.proofs.Spans.{found-within, none-behind, spans-step}
@@ -55,20 +55,20 @@ module _ (a b : List ℕ) where
   -- a telegram that is found in a is found in a ++ b
   found-still : (place o e : ℕ) → spanOf a place ≡ Found o e → spanOf (a ++ b) place ≡ Found o e
   found-still place o e h =
-      let f : First a place (Found o e) = rw h at (span-first a place) in
+      let f : FirstTelegram a place (Found o e) = rw h at (span-first a place) in
       search-answers (a ++ b) place (Found o e) .1
       (f .0, still o e (f .1), λ o′ e′ g t. order (length a) e′ (λ l. omega (arith, f .1 .within)) (λ m. f .2 o′ e′ g (before o′ e′ t m)))
 
   -- where none is found in a, one of a ++ b begins within the last 65 bytes of a or behind
   late : (place o e : ℕ) → spanOf a place ≡ Nothing → place ≤ o → Telegram (a ++ b) o e → length a - unfinished ≤ o
   late place o e h g t =
-      let f : First a place Nothing = rw h at (span-first a place) in
+      let f : FirstTelegram a place Nothing = rw h at (span-first a place) in
       order (length a) e (λ l. omega (arith, t .short, t .long)) (λ m. absurd (f o e g (before o e t m)))
 
   skipped : (place : ℕ) → spanOf a place ≡ Nothing → spanOf (a ++ b) place ≡ spanOf (a ++ b) (keptFrom place (length a))
   skipped place h = search-answers (a ++ b) place (spanOf (a ++ b) (keptFrom place (length a))) .1 (go (spanOf (a ++ b) (keptFrom place (length a))) (span-first (a ++ b) (keptFrom place (length a))))
     where
-      go : (p : Span) → First (a ++ b) (keptFrom place (length a)) p → First (a ++ b) place p
+      go : (p : Span) → FirstTelegram (a ++ b) (keptFrom place (length a)) p → FirstTelegram (a ++ b) place p
       go (Found o e) (f, t, first) = (omega arith, t, λ o′ e′ g t′. first o′ e′ (omega (arith, late place o′ e′ h g t′)) t′)
       go Nothing none = λ o′ e′ g t′. none o′ e′ (omega (arith, late place o′ e′ h g t′)) t′
 

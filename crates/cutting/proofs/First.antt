@@ -13,7 +13,7 @@ use Rattle.cutting.specs.declared.search.Span.{Span}
 use Rattle.cutting.specs.declared.search.Span.the-variants.{Found, Nothing}
 use Rattle.turns.specs.Turns.{turnOf}
 use Rattle.cutting.specs.Search.{cutFrom, spanOf, partOf}
-use Rattle.cutting.specs.Telegrams.{Plain, Telegram, First, SearchAnswers, PartLength, EmptyPart}
+use Rattle.cutting.specs.Telegrams.{Plain, Telegram, FirstTelegram, SearchAnswers, PartLength, EmptyPart}
 use Rattle.turns.proofs.Cases.{Case, begins, skips, ends, drops, joins, turn-case}
 use Rattle.cutting.proofs.Steps.{none-left, on-ends, on-joins, on-drops}
 use Rattle.cutting.proofs.Openings.{Opening, apart, opening-of, telegram-of, one-opening, begun-at, longer, came}
@@ -65,7 +65,13 @@ module _ (s : List ℕ) (from : ℕ) where
           (λ w. let q = g .only o f (w .0) in let z : ⊥ = omega (arith, w .2) in absurd z) (came s o i p)
 
   at-joins : (i len : ℕ) → Gathers s from i len → Plain (getD s i 0) → 0 < len → len < unfinished → Gathers s from (i + 1) (len + 1)
-  at-joins i len g b z h = record { reach = omega (arith, g .reach); only = only; begun = λ _. rw q (longer s (i - len) i (g .begun z) b (omega (arith, g .reach))); passed = not-cr i (b .1) (g .passed) }
+  at-joins i len g b z h =
+      record {
+        reach = omega (arith, g .reach);
+        only = only;
+        begun = λ _. rw q (longer s (i - len) i (g .begun z) b (omega (arith, g .reach)));
+        passed = not-cr i (b .1) (g .passed);
+      }
     where
       q : i + 1 - (len + 1) ≡ i - len
       q = omega arith
@@ -76,21 +82,21 @@ module _ (s : List ℕ) (from : ℕ) where
           (λ w. let q = g .only o f (w .0) in omega arith) (came s o i p)
 
   -- what it answers at a CR that ends a telegram, and at the end
-  found : (i len : ℕ) → Gathers s from i len → i < length s → getD s i 0 ≡ cr → 0 < len → First s from (Found (i - len) (i + 1))
+  found : (i len : ℕ) → Gathers s from i len → i < length s → getD s i 0 ≡ cr → 0 < len → FirstTelegram s from (Found (i - len) (i + 1))
   found i len g h c z =
       (omega (arith, g .reach), telegram-of s (i - len) i (g .begun z) h c, λ o e f t. let k = g .passed o e f t in omega arith)
 
-  at-end : (i len : ℕ) → Gathers s from i len → length s ≤ i → First s from (cutFrom (drop i s) len i)
+  at-end : (i len : ℕ) → Gathers s from i len → length s ≤ i → FirstTelegram s from (cutFrom (drop i s) len i)
   at-end i len g h = rw (none-left s len i h) (λ o e f t. let k = g .passed o e f t in omega (arith, t .within))
 
   -- the search's answer from any place where it may stand; k bounds what is left
-  onwards : (k i len : ℕ) → length s ≤ i + k → Gathers s from i len → First s from (cutFrom (drop i s) len i)
+  onwards : (k i len : ℕ) → length s ≤ i + k → Gathers s from i len → FirstTelegram s from (cutFrom (drop i s) len i)
   onwards zero i len h g = at-end i len g (omega arith)
   onwards (suc k) i len h g =
       order i (length s) (λ l. turn l (turnOf len (getD s i 0)) (turn-case len (getD s i 0)) refl (λ n g′. onwards k (i + 1) n (omega arith) g′)) (at-end i len g)
     where
       turn : i < length s → (t : Turn) → Case len (getD s i 0) t → turnOf len (getD s i 0) ≡ t
-          → ((n : ℕ) → Gathers s from (i + 1) n → First s from (cutFrom (drop (i + 1) s) n (i + 1))) → First s from (cutFrom (drop i s) len i)
+          → ((n : ℕ) → Gathers s from (i + 1) n → FirstTelegram s from (cutFrom (drop (i + 1) s) n (i + 1))) → FirstTelegram s from (cutFrom (drop i s) len i)
       turn l t (begins b) e go = rw (on-joins s len i 0 l e) (go 1 (at-begins i len g b))
       turn l t (skips b z) e go = rw (on-drops s len i l e) (go 0 (at-skips i (rw z at g) b))
       turn l t (ends c z) e go = rw (on-ends s len i len l e) (found i len g l c z)
@@ -98,14 +104,14 @@ module _ (s : List ℕ) (from : ℕ) where
       turn l t (joins b c z m) e go = rw (on-joins s len i len l e) (go (len + 1) (at-joins i len g (b, c) z m))
 
   -- what the search finds is the first
-  pub span-first : First s from (spanOf s from)
+  pub span-first : FirstTelegram s from (spanOf s from)
   unfolding spanOf
   span-first =
       onwards (length s) from 0 (omega arith)
       record { reach = omega arith; only = λ o f p. let z : ⊥ = omega (arith, p .before) in absurd z; begun = λ h. let z : ⊥ = omega arith in absurd z; passed = λ o e f t. omega (arith, t .long) }
 
   -- the first is one
-  one-first : (p q : Span) → First s from p → First s from q → p ≡ q
+  one-first : (p q : Span) → FirstTelegram s from p → FirstTelegram s from q → p ≡ q
   one-first (Found o e) (Found o′ e′) (f, t, first) (f′, t′, first′) =
       let x : e ≡ e′ = omega (arith, first o′ e′ f′ t′, first′ o e f t) in
       let y : o ≡ o′ = one-opening s o o′ (e - 1) (opening-of s o e t) (rw (sym x) at (opening-of s o′ e′ t′)) in
@@ -121,7 +127,7 @@ search-answers s from p = (λ e. rw e at (span-first s from), λ f. one-first s 
 -- the part found is as long as its span
 pub part-length : PartLength
 part-length s from o e h =
-    let f : First s from (Found o e) = rw h at (span-first s from) in
+    let f : FirstTelegram s from (Found o e) = rw h at (span-first s from) in
     length-take-le (e - o) (drop o s) (omega (arith, f .1 .within, length-drop o s))
 
 -- so it is empty just where none is left
@@ -131,6 +137,6 @@ empty-part s from = (λ h. told (spanOf s from) refl h, λ h. rw h)
     told : (p : Span) → spanOf s from ≡ p → partOf s p ≡ [] → p ≡ Nothing
     told Nothing e h = refl
     told (Found o e) q h =
-        let f : First s from (Found o e) = rw q at (span-first s from) in
+        let f : FirstTelegram s from (Found o e) = rw q at (span-first s from) in
         let z : ⊥ = omega (arith, part-length s from o e q, ap length h, f .1 .long) in
         absurd z

@@ -14,12 +14,12 @@ use Rattle.cutting.specs.declared.gather.Heard.{Heard}
 use Rattle.cutting.specs.declared.gather.Heard.the-variants.{Byte, Hit}
 use Rattle.cutting.specs.declared.gather.Gatherer.{Gatherer}
 use Rattle.turns.specs.Turns.{turnOf}
-use Rattle.cutting.specs.Gather.{nothing, telegram, refused, atStart, turned, heardOf, gatherOf}
+use Rattle.cutting.specs.Gather.{nothing, telegram, refused, atStart, turned, onItem, gatherOf}
 use Rattle.turns.proofs.Cases.{joins-at, ends-at}
-use Rattle.cutting.specs.Streams.{InRange, after, TelegramNumber, AlwaysInRange, NeverRefused}
+use Rattle.cutting.specs.Streams.{InRange, afterItems, TelegramNumber, AlwaysInRange, NeverRefused}
 
 -- in its ranges a state hears the item
-pub hears : (g : Gatherer) (item : Heard) → InRange g → gatherOf g item ≡ heardOf g item
+pub hears : (g : Gatherer) (item : Heard) → InRange g → gatherOf g item ≡ onItem g item
 unfolding gatherOf
 hears g item r = rw (lt-leb longest (g .len) (r .few))
 
@@ -53,12 +53,12 @@ telegram-number g item n r e = length-take-le n (gatherOf g item .0 .bytes) (ome
     turn byte (Ends at) e q = let x : at + 1 ≡ n = cc in omega (arith, ends-at (g .len) byte at e, r .few)
     turn byte Drops e q = let z : _≡_ {A = ℕ} 0 1 = cc in let y : ⊥ = omega arith in absurd y
 
-    few : (item : Heard) → heardOf g item .1 ≡ telegram n → n ≤ longest
+    few : (item : Heard) → onItem g item .1 ≡ telegram n → n ≤ longest
     few (Byte byte) q = turn byte (turnOf (g .len) byte) refl q
     few Hit q = let z : _≡_ {A = ℕ} 0 1 = cc in let y : ⊥ = omega arith in absurd y
 
-after-range : (g : Gatherer) (items : List Heard) → InRange g → InRange (after g items)
-unfolding after
+after-range : (g : Gatherer) (items : List Heard) → InRange g → InRange (afterItems g items)
+unfolding afterItems
 after-range g [] r = r
 after-range g (item ∷ items) r = after-range (gatherOf g item .0) items (step-range g item r)
 
@@ -71,4 +71,4 @@ always-in-range items = after-range atStart items start-range
 
 -- so its own calls are never refused 15, nor refused at all
 pub never-refused : NeverRefused
-never-refused items item x = not-refused (after atStart items) item x (always-in-range items)
+never-refused items item x = not-refused (afterItems atStart items) item x (always-in-range items)

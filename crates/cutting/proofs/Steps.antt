@@ -33,8 +33,10 @@ pub on-drops : (s : List ℕ) (len i : ℕ) → i < length s → turnOf len (get
 on-drops s len i h e = at-place s len i h ∙ rw e
 
 -- so a search that goes on finds what it would have found
-pub joined : (s : List ℕ) (len i at n : ℕ) (x : Span) → i < length s → turnOf len (getD s i 0) ≡ Joins at → n ≡ at + 1 → (len ≤ i) × (cutFrom (drop i s) len i ≡ x) → (n ≤ i + 1) × (cutFrom (drop (i + 1) s) n (i + 1) ≡ x)
+pub joined : (s : List ℕ) (len i at n : ℕ) (x : Span) → i < length s → turnOf len (getD s i 0) ≡ Joins at → n ≡ at + 1
+    → (len ≤ i) × (cutFrom (drop i s) len i ≡ x) → (n ≤ i + 1) × (cutFrom (drop (i + 1) s) n (i + 1) ≡ x)
 joined s len i at n x h e f g = (omega (arith, joins-at len (getD s i 0) at e .0, g .0), rw f (sym (on-joins s len i at h e) ∙ g .1))
 
-pub dropped : (s : List ℕ) (len i n : ℕ) (x : Span) → i < length s → turnOf len (getD s i 0) ≡ Drops → n ≡ 0 → (len ≤ i) × (cutFrom (drop i s) len i ≡ x) → (n ≤ i + 1) × (cutFrom (drop (i + 1) s) n (i + 1) ≡ x)
+pub dropped : (s : List ℕ) (len i n : ℕ) (x : Span) → i < length s → turnOf len (getD s i 0) ≡ Drops → n ≡ 0
+    → (len ≤ i) × (cutFrom (drop i s) len i ≡ x) → (n ≤ i + 1) × (cutFrom (drop (i + 1) s) n (i + 1) ≡ x)
 dropped s len i n x h e f g = (omega arith, rw f (sym (on-drops s len i h e) ∙ g .1))

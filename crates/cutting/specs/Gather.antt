@@ -44,13 +44,13 @@ turned g byte (Ends at) = (holding g at byte 0, telegram (at + 1))
 turned g byte Drops = (shut g, nothing)
 
 -- a heard item is a byte or a hit; a hit drops what was begun
-abbrev pub heardOf : Gatherer → Heard → Gatherer × Cut
-heardOf g (Byte byte) = turned g byte (turnOf (g .len) byte)
-heardOf g Hit = (shut g, nothing)
+abbrev pub onItem : Gatherer → Heard → Gatherer × Cut
+onItem g (Byte byte) = turned g byte (turnOf (g .len) byte)
+onItem g Hit = (shut g, nothing)
 
 -- 15 where the state is out of its ranges, which stays as it was
 unfoldable pub gatherOf : Gatherer → Heard → Gatherer × Cut
-gatherOf g item = cond (leb longest (g .len)) (g, refused (no 15 0)) (heardOf g item)
+gatherOf g item = cond (leb longest (g .len)) (g, refused (no 15 0)) (onItem g item)
 
 -- a promise through these definitions allows one answer only
 abbrev pub OneGathered : Type 0

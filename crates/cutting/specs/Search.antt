@@ -35,13 +35,13 @@ abbrev pub partOf : List ℕ → Span → List ℕ
 partOf s (Found start end) = take (end - start) (drop start s)
 partOf s Nothing = []
 
-abbrev pub startOf : Span → ℕ → ℕ
-startOf (Found start end) other = start
-startOf Nothing other = other
+abbrev pub offsetOf : Span → ℕ → ℕ
+offsetOf (Found start end) other = start
+offsetOf Nothing other = other
 
 -- the offset of a span and its bytes; none: an empty part at the end
 abbrev pub placed : List ℕ → Span → ℕ × List ℕ
-placed s span = (startOf span (length s), partOf s span)
+placed s span = (offsetOf span (length s), partOf s span)
 
 -- what cutting and reading finds: nothing, a telegram from start to end with what it reads as, or a refusal's number and place
 pub data Next : Type 0 where

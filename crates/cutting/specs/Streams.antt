@@ -20,9 +20,9 @@ pub record InRange (g : Gatherer) : Type 0 where
   pub room : length (g .bytes) ≡ longest
 
 -- the state that items leave
-unfoldable pub after : Gatherer → List Heard → Gatherer
-after g [] = g
-after g (item ∷ items) = after (gatherOf g item .0) items
+unfoldable pub afterItems : Gatherer → List Heard → Gatherer
+afterItems g [] = g
+afterItems g (item ∷ items) = afterItems (gatherOf g item .0) items
 
 -- what a step hands out, before what later steps do: a telegram is the first bytes of its state
 abbrev pub handing : Gatherer × Cut → List (List ℕ) → List (List ℕ)
@@ -51,11 +51,11 @@ searched (suc n) s from = finding s (spanOf s from) (searched n s)
 
 -- From the start, under any items, the gatherer is in its ranges,
 abbrev pub AlwaysInRange : Type 0
-AlwaysInRange = (items : List Heard) → InRange (after atStart items)
+AlwaysInRange = (items : List Heard) → InRange (afterItems atStart items)
 
 -- so its own calls are never refused, by 15 or at all.
 abbrev pub NeverRefused : Type 0
-NeverRefused = (items : List Heard) (item : Heard) (why : No) → ¬ (gatherOf (after atStart items) item .1 ≡ refused why)
+NeverRefused = (items : List Heard) (item : Heard) (why : No) → ¬ (gatherOf (afterItems atStart items) item .1 ≡ refused why)
 
 -- The number that a step answers is the number of its telegram's bytes.
 abbrev pub TelegramNumber : Type 0

@@ -23,13 +23,13 @@ pub record Telegram (s : List ℕ) (o e : ℕ) : Type 0 where
   pub between : (k : ℕ) → o < k → k < e - 1 → Plain (getD s k 0)
 
 -- "hands back the telegram .., or says that none is left": the one that ends first of those that begin at or behind its place
-abbrev pub First : List ℕ → ℕ → Span → Type 0
-First s from (Found o e) = (from ≤ o) × Telegram s o e × ((o′ e′ : ℕ) → from ≤ o′ → Telegram s o′ e′ → e ≤ e′)
-First s from Nothing = (o′ e′ : ℕ) → from ≤ o′ → Telegram s o′ e′ → ⊥
+abbrev pub FirstTelegram : List ℕ → ℕ → Span → Type 0
+FirstTelegram s from (Found o e) = (from ≤ o) × Telegram s o e × ((o′ e′ : ℕ) → from ≤ o′ → Telegram s o′ e′ → e ≤ e′)
+FirstTelegram s from Nothing = (o′ e′ : ℕ) → from ≤ o′ → Telegram s o′ e′ → ⊥
 
 -- The search answers a span just where that span is the first telegram from its place on, and nothing just where there is none.
 abbrev pub SearchAnswers : Type 0
-SearchAnswers = (s : List ℕ) (from : ℕ) (p : Span) → (spanOf s from ≡ p) ↔ First s from p
+SearchAnswers = (s : List ℕ) (from : ℕ) (p : Span) → (spanOf s from ≡ p) ↔ FirstTelegram s from p
 
 -- The part found is as long as its span,
 abbrev pub PartLength : Type 0

@@ -64,7 +64,7 @@ impl Gatherer {
     }
 
     // One byte.
-    fn hear(self, byte: u8) -> Step
+    fn gather_byte(self, byte: u8) -> Step
         requires { ⌜ self .len < longest ⌝ }
         ensures { λ r. ⌜ (r .gatherer, gatheredOf (r .answer)) ≡ turned self byte (turnOf (self .len) byte) ⌝ }
     {
@@ -96,7 +96,7 @@ impl Gatherer {
             };
         }
         match item {
-            Heard::Byte(byte) => self.hear(byte),
+            Heard::Byte(byte) => self.gather_byte(byte),
             Heard::Hit => {
                 let dropped = self.close();
                 Step {

@@ -1,6 +1,6 @@
 // The search for the next telegram over a lent slice (01 'Cutting the stream').
 ghost use mathlib.Core.Path.{_≡_};
-ghost use Rattle.cutting.specs.Search.{spanOf, partOf, startOf, placed, cuttingOf, nextOf};
+ghost use Rattle.cutting.specs.Search.{spanOf, partOf, offsetOf, placed, cuttingOf, nextOf};
 use characters::slices::less;
 use characters::slices::part;
 use forms::table::is_line;
@@ -64,8 +64,8 @@ pub fn part_of(s: &[u8], span: Span) -> &[u8]
 }
 
 // The offset that a span names, and another number where it names none.
-fn start_of(span: Span, other: usize) -> usize
-    ensures { λ r. ⌜ r ≡ startOf span other ⌝ }
+fn offset_of(span: Span, other: usize) -> usize
+    ensures { λ r. ⌜ r ≡ offsetOf span other ⌝ }
 {
     match span {
         Span::Found { start, end: _ } => start,
@@ -78,7 +78,7 @@ pub fn next_part<'a>(s: &'a [u8], from: usize, at: &mut usize) -> &'a [u8]
     ensures { λ r. ⌜ (now (at .exit), now r) ≡ placed (now (s .entry)) (spanOf (now (s .entry)) from) ⌝ }
 {
     let span = span_of(s, from);
-    *at = start_of(span, s.len());
+    *at = offset_of(span, s.len());
     part_of(s, span)
 }
 

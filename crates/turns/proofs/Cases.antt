@@ -34,11 +34,14 @@ turn-case len byte = at-lf (eqb byte lf) (eqb-true byte lf) (eqb-false byte lf)
     at-cr true y n l z = ends (y refl) (omega arith)
     at-cr false y n l z = at-limit (leb unfinished len) (leb-true unfinished len) (leb-false unfinished len) l z (n refl)
 
-    outside : (t : Bool) → (t ≡ true → len ≡ 0) → (t ≡ false → ¬ (len ≡ 0)) → ¬ (byte ≡ lf) → Case len byte (pickTurn t Drops (pickTurn (eqb byte cr) (Ends len) (pickTurn (leb unfinished len) Drops (Joins len))))
+    outside : (t : Bool) → (t ≡ true → len ≡ 0) → (t ≡ false → ¬ (len ≡ 0)) → ¬ (byte ≡ lf)
+        → Case len byte (pickTurn t Drops (pickTurn (eqb byte cr) (Ends len) (pickTurn (leb unfinished len) Drops (Joins len))))
     outside true y n l = skips l (y refl)
     outside false y n l = at-cr (eqb byte cr) (eqb-true byte cr) (eqb-false byte cr) l (n refl)
 
-    at-lf : (t : Bool) → (t ≡ true → byte ≡ lf) → (t ≡ false → ¬ (byte ≡ lf)) → Case len byte (pickTurn t (Joins 0) (pickTurn (eqb len 0) Drops (pickTurn (eqb byte cr) (Ends len) (pickTurn (leb unfinished len) Drops (Joins len)))))
+    at-lf : (t : Bool) → (t ≡ true → byte ≡ lf) → (t ≡ false → ¬ (byte ≡ lf))
+        → Case len byte
+        (pickTurn t (Joins 0) (pickTurn (eqb len 0) Drops (pickTurn (eqb byte cr) (Ends len) (pickTurn (leb unfinished len) Drops (Joins len)))))
     at-lf true y n = begins (y refl)
     at-lf false y n = outside (eqb len 0) (eqb-true len 0) (eqb-false len 0) (n refl)
 

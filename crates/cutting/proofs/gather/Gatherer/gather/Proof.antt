@@ -13,8 +13,8 @@ returns c = search tests
 enum-known-item : tie.Need-enum-known-item
 enum-known-item c = search needs
 
-hear-requires : tie.Need-hear-requires
-hear-requires c κs = search needs
+gather-byte-requires : tie.Need-gather-byte-requires
+gather-byte-requires c κs = search needs
 
 enum-told : tie.Need-enum-told
 enum-told c = search needs
@@ -24,7 +24,7 @@ close-requires c κs = search needs
 
 returns-2 : tie.Need-returns-2
 unfolding gatherOf
-returns-2 c = rw (lt-leb _ _ (c .before .before .before .before .if1 .left), c .before .before .item .given .1) (c .hear .ensures)
+returns-2 c = rw (lt-leb _ _ (c .before .before .before .before .if1 .left), c .before .before .item .given .1) (c .gather-byte .ensures)
 
 returns-3 : tie.Need-returns-3
 unfolding gatherOf
@@ -33,4 +33,4 @@ returns-3 c = rw (lt-leb _ _ (c .before .before .before .if1 .left), c .before .
 pub gather-spec : {M : Type 1} → statement M
 gather-spec =
     tie.close
-    (tie.spec returns enum-known-item hear-requires enum-told close-requires returns-2 returns-3)
+    (tie.spec returns enum-known-item gather-byte-requires enum-told close-requires returns-2 returns-3)

@@ -1,4 +1,4 @@
--- `hear` does what the byte's turn says; the index that the turn names lies in the array. Assumes nothing.
+-- `gather_byte` does what the byte's turn says; the index that the turn names lies in the array. Assumes nothing.
 use mathlib.Core.Path.{sym, ap, _∙_}
 use Prim.Native.Nat.{_+_}
 use native.Mathlib.Omega.{arith}
@@ -6,8 +6,8 @@ use Rattle.cutting.specs.declared.gather.Gatherer.{Gatherer}
 use Rattle.cutting.specs.Gather.{nothing, telegram, turned}
 use Rattle.turns.proofs.Cases.{joins-at, ends-at}
 use borrow.Author.Needs.{needs}
-use Rattle.cutting.proofs.gather.Gatherer.hear.Statement.{statement}
-use Rattle.cutting.proofs.gather.Gatherer.hear.Tie as tie
+use Rattle.cutting.proofs.gather.Gatherer.gather_byte.Statement.{statement}
+use Rattle.cutting.proofs.gather.Gatherer.gather_byte.Tie as tie
 
 turn-of-requires : tie.Need-turn-of-requires
 turn-of-requires c κs = search needs
@@ -44,15 +44,18 @@ returns c =
 returns-2 : tie.Need-returns-2
 returns-2 c =
     let a = c .before .before .before .before .before .args in
-    ap (λ (g : Gatherer). (g, telegram (c .before .before .turn2 .given .0 .0 + 1))) (c .put2 .ensures) ∙ ap (turned (a .self) (a .byte)) (sym (c .before .before .turn2 .given .1) ∙ c .before .before .before .before .turn-of .ensures)
+    let turn-of = c .before .before .before .before .turn-of in
+    let turn2 = c .before .before .turn2 in
+    ap (λ (g : Gatherer). (g, telegram (turn2 .given .0 .0 + 1))) (c .put2 .ensures)
+    ∙ ap (turned (a .self) (a .byte)) (sym (turn2 .given .1) ∙ turn-of .ensures)
 
 returns-3 : tie.Need-returns-3
 returns-3 c =
     let a = c .before .before .before .before .args in
     ap (λ (g : Gatherer). (g, nothing)) (c .close .ensures) ∙ ap (turned (a .self) (a .byte)) (sym (c .before .enum-told .given .1) ∙ c .before .before .before .turn-of .ensures)
 
-pub hear-spec : {M : Type 1} → statement M
-hear-spec =
+pub gather-byte-spec : {M : Type 1} → statement M
+gather-byte-spec =
     tie.close
     (tie.spec
     turn-of-requires
