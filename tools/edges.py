@@ -1,7 +1,7 @@
 #!/usr/bin/env python3
 """Holds crates.txt to what the crates use.
 
-    tools/edges.py            for each crate: what is listed and not used, what is used and not listed; exit 1 where they differ
+    tools/edges.py            for each crate: what is listed and not used, what is used and not listed, or listed below it; exit 1 where there is any
     tools/edges.py --write    rewrites crates.txt to what is used; comments and order stay
 
 A crate uses another where its src/ has a path `X::`, where its src/, specs/ or proofs/ name `Rattle.X`, or where a struct or an enum
@@ -93,6 +93,10 @@ def main():
             differ += 1
             print(f'{crate}:' + (f' lists and does not use {" ".join(less)}' if less else '') + (';' if more and less else '')
                   + (f' uses and does not list {" ".join(more)}' if more else ''))
+        below = [d for d in used[crate] if d in deps and order.index(d) > order.index(crate)]
+        if below:
+            differ += 1
+            print(f'{crate}: stands above {" ".join(below)}, which it uses')
     print(f'{sum(map(len, deps.values()))} edges listed, {sum(map(len, used.values()))} used')
     if '--write' in sys.argv[1:]:
         lines = []

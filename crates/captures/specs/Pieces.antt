@@ -5,10 +5,9 @@ use mathlib.Core.Bool.{Bool, true, false, cond}
 use mathlib.Core.List.{List, [], _∷_, _++_}
 use lib.Dec.{leb}
 use lib.ListN.{length, take, drop}
-use Rattle.laws.specs.Truth.{from}
 use Rattle.laws.specs.Text.{codes}
 use Rattle.characters.specs.Marks.{lf, unfinished}
-use Rattle.forms.specs.Forms.{isLine}
+use Rattle.forms.specs.Lines.{isLine}
 use Rattle.reading.specs.Answers.{Outcome, written, refused}
 use Rattle.reading.specs.Reading.{readingOf}
 use Rattle.cutting.specs.declared.search.Span.{Span}
@@ -50,8 +49,8 @@ unfoldable pub linesOf : ℕ → ℕ → ℕ → List ℕ → ℕ → List ℕ
 linesOf line ordinal base s place = linesIn line ordinal base s (spansOf s place)
 
 -- the line that a capture's first byte names, 0 where it names none, and what is printed then
-unfoldable pub lineDigit : ℕ → ℕ
-lineDigit digit = cond (from (code "1") (code "3") digit) (digit - code "0") 0
+unfoldable pub lineNamed : ℕ → ℕ
+lineNamed digit = cond (isLine (digit - code "0")) (digit - code "0") 0
 
 abbrev pub badLine : List ℕ
 badLine = codes "no 15 0" ++ (lf ∷ [])
@@ -59,7 +58,7 @@ badLine = codes "no 15 0" ++ (lf ∷ [])
 -- what the program prints for a whole input: ordinals from 1, offsets from 0 after the digit
 unfoldable pub listingOf : List ℕ → List ℕ
 listingOf [] = badLine
-listingOf (digit ∷ s) = cond (isLine (lineDigit digit)) (linesOf (lineDigit digit) 1 0 s 0) badLine
+listingOf (digit ∷ s) = cond (isLine (lineNamed digit)) (linesOf (lineNamed digit) 1 0 s 0) badLine
 
 -- the line of the next telegram, from the front of an output
 abbrev pub stepFor : ℕ → Outcome → step.Step

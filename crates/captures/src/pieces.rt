@@ -1,25 +1,27 @@
 // The lines of a lent slice, and what is kept of it for the next piece of a capture (01 'Bench cases', 'Cutting the stream').
 ghost use mathlib.Core.Path.{_≡_};
 ghost use lib.ListN.{length};
-ghost use Rattle.captures.specs.Pieces.{stepOf, listPart, keptFrom, tailOf, tailPut, lineDigit, badLine};
+ghost use Rattle.captures.specs.Pieces.{stepOf, listPart, keptFrom, tailOf, tailPut, lineNamed, badLine};
 use characters::marks::UNFINISHED;
 use characters::slices::less;
 use characters::slices::part;
 use cutting::search::Span;
 use cutting::search::part_of;
 use cutting::search::span_of;
+use forms::lines::is_line;
 use listings::lines::put_line;
 use reading::answers::Writing;
 use reading::reading::read;
 
 // The line that a capture's first byte names, 0 where it names none.
-pub fn line_of(digit: u8) -> u8
-    ensures { λ r. ⌜ r ≡ lineDigit digit ⌝ }
+pub fn line_named(digit: u8) -> u8
+    ensures { λ r. ⌜ r ≡ lineNamed digit ⌝ }
 {
-    match digit {
-        b'1'..=b'3' => digit - 48,
-        _ => 0,
+    if digit < b'0' {
+        return 0;
     }
+    let line = digit - b'0';
+    if is_line(line) { line } else { 0 }
 }
 
 // What a capture of no line prints.

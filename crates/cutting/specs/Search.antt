@@ -5,7 +5,7 @@ use mathlib.Core.Bool.{cond}
 use mathlib.Core.List.{List, [], _∷_}
 use lib.ListN.{length, take, drop}
 use Rattle.records.specs.Refusals.{No, no, refusalOf}
-use Rattle.forms.specs.Forms.{isLine}
+use Rattle.forms.specs.Lines.{isLine}
 use Rattle.reading.specs.Answers.{Answer, answerOf}
 use Rattle.reading.specs.Reading.{readingOf}
 use Rattle.turns.specs.declared.turns.Turn.{Turn}

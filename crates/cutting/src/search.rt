@@ -3,7 +3,7 @@ ghost use mathlib.Core.Path.{_≡_};
 ghost use Rattle.cutting.specs.Search.{spanOf, partOf, offsetOf, placed, cuttingOf, nextOf};
 use characters::slices::less;
 use characters::slices::part;
-use forms::table::is_line;
+use forms::lines::is_line;
 use reading::answers::Reading;
 use reading::reading::read;
 use records::refusals::Refusal;

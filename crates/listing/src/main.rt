@@ -3,7 +3,7 @@ use captures::pieces::Listed;
 use captures::pieces::bad_line;
 use captures::pieces::keep_tail;
 use captures::pieces::kept_from;
-use captures::pieces::line_of;
+use captures::pieces::line_named;
 use captures::pieces::list_part;
 use captures::places::Place;
 use characters::slices::part;
@@ -59,7 +59,7 @@ fn list_all(line: u8, buf: &mut [u8], out: &mut [u8]) {
 fn main() {
     let mut first = [0u8; 1];
     libc::read(STDIN_FILENO, &mut first);
-    let line = line_of(first[0]);
+    let line = line_named(first[0]);
     if line == 0 {
         io::write_all(STDOUT_FILENO, &bad_line());
         return;
