@@ -1,5 +1,5 @@
--- `values::values::put_numeral` meets its contract. Assumes nothing.
-use Rattle.values.proofs.Numbers.{digit-step}
+-- `values::numbers::put_numeral` meets its contract. Assumes nothing.
+use Rattle.values.proofs.Digits.{digit-step}
 use Rattle.laws.specs.Numerals.{numeralOn, numeral}
 use lib.Seq.{drop-length}
 use lib.ListN.{length, drop, length-set}
@@ -7,8 +7,8 @@ use native.Mathlib.Omega.{arith}
 use Prim.Native.Nat.{_≤_}
 use mathlib.Core.Path.{_≡_, refl, _∙_}
 use borrow.Author.Needs.{needs}
-use Rattle.values.proofs.values.put_numeral.Statement.{statement}
-use Rattle.values.proofs.values.put_numeral.Tie as tie
+use Rattle.values.proofs.numbers.put_numeral.Statement.{statement}
+use Rattle.values.proofs.numbers.put_numeral.Tie as tie
 
 abbrev Inv-loop : tie.InvT-loop
 Inv-loop part₀ decimal n m₀ i₀ part m i = (i ≤ length part₀) × (length part ≡ length part₀) × (numeralOn decimal i m (drop i part) ≡ numeral decimal (length part₀) n)

@@ -1,5 +1,5 @@
--- `reading::reading::number_of` meets its contract. Assumes nothing.
-use Rattle.reading.proofs.Digits.{no-digit, number-step, digit-more, few}
+-- `values::numbers::number_said` meets its contract. Assumes nothing.
+use Rattle.values.proofs.Digits.{no-digit, number-step, digit-more, few}
 use Rattle.laws.specs.Numerals.{base, numberOn}
 use lib.Seq.{drop-length}
 use lib.ListN.{length, drop, getD}
@@ -8,8 +8,8 @@ use native.Mathlib.Omega.{arith}
 use borrow.Author.Needs.{needs}
 use denote.Ref.{now}
 use mathlib.Core.Path.{_≡_, refl, sym, _∙_}
-use Rattle.reading.proofs.reading.number_of.Statement.{statement}
-use Rattle.reading.proofs.reading.number_of.Tie as tie
+use Rattle.values.proofs.numbers.number_said.Statement.{statement}
+use Rattle.values.proofs.numbers.number_said.Tie as tie
 
 abbrev Inv-loop : tie.InvT-loop
 Inv-loop decimal text a₀ i₀ a i = (i ≤ length text) × (a < base decimal ^ i) × (numberOn decimal a (drop i text) ≡ numberOn decimal 0 text)
@@ -43,8 +43,8 @@ returns c =
     let h : c .before .loop .i ≡ length (now (c .before .before .before .args .text)) = omega arith in
     rw (h, drop-length) at (c .before .loop .inv .2)
 
-pub number-of-spec : {M : Type 1} → statement M
-number-of-spec =
+pub number-said-spec : {M : Type 1} → statement M
+number-said-spec =
     tie.close
     (tie.spec
     Inv-loop

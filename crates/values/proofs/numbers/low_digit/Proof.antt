@@ -1,8 +1,8 @@
--- `values::values::low_digit` meets its contract. Assumes nothing.
+-- `values::numbers::low_digit` meets its contract. Assumes nothing.
 use native.Mathlib.Omega.{arith}
 use borrow.Author.Needs.{needs}
-use Rattle.values.proofs.values.low_digit.Statement.{statement}
-use Rattle.values.proofs.values.low_digit.Tie as tie
+use Rattle.values.proofs.numbers.low_digit.Statement.{statement}
+use Rattle.values.proofs.numbers.low_digit.Tie as tie
 
 add-result : tie.Need-add-result
 add-result c = search needs

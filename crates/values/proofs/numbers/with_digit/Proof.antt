@@ -1,9 +1,9 @@
--- `reading::reading::with_digit` meets its contract. Assumes nothing.
+-- `values::numbers::with_digit` meets its contract. Assumes nothing.
 use Rattle.laws.proofs.Truths.{not-true, not-false}
 use native.Mathlib.Omega.{arith}
 use borrow.Author.Needs.{needs}
-use Rattle.reading.proofs.reading.with_digit.Statement.{statement}
-use Rattle.reading.proofs.reading.with_digit.Tie as tie
+use Rattle.values.proofs.numbers.with_digit.Statement.{statement}
+use Rattle.values.proofs.numbers.with_digit.Tie as tie
 
 mul-result : tie.Need-mul-result
 mul-result c = search needs

@@ -1,6 +1,6 @@
--- `values::values::quotient` meets its contract. Assumes nothing.
-use Rattle.values.proofs.values.quotient.Statement.{statement}
-use Rattle.values.proofs.values.quotient.Tie as tie
+-- `values::numbers::quotient` meets its contract. Assumes nothing.
+use Rattle.values.proofs.numbers.quotient.Statement.{statement}
+use Rattle.values.proofs.numbers.quotient.Tie as tie
 
 returns : tie.Need-returns
 returns c = rw (c .if1 .taken)

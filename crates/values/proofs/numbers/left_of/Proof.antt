@@ -1,11 +1,11 @@
--- `values::values::left_of` meets its contract. Assumes nothing.
-use Rattle.values.proofs.Numbers.{left-step}
+-- `values::numbers::left_of` meets its contract. Assumes nothing.
+use Rattle.values.proofs.Digits.{left-step}
 use Rattle.laws.specs.Numerals.{leftOf}
 use native.Mathlib.Omega.{arith}
 use mathlib.Core.Path.{_≡_, refl, _∙_}
 use borrow.Author.Needs.{needs}
-use Rattle.values.proofs.values.left_of.Statement.{statement}
-use Rattle.values.proofs.values.left_of.Tie as tie
+use Rattle.values.proofs.numbers.left_of.Statement.{statement}
+use Rattle.values.proofs.numbers.left_of.Tie as tie
 
 abbrev Inv-loop : tie.InvT-loop
 Inv-loop decimal w n m₀ i₀ m i = leftOf decimal i m ≡ leftOf decimal w n
