@@ -24,7 +24,10 @@ shared-slice-read-with-digit : tie.Need-shared-slice-read-with-digit Inv-loop μ
 shared-slice-read-with-digit c = search needs
 
 with-digit-requires : tie.Need-with-digit-requires Inv-loop μ-loop
-with-digit-requires c κs = let p = few (c .before .before .before .before .args .decimal) (length (now (c .before .before .before .before .args .text))) (c .before .before .loop .i) (c .before .before .before .before .pre .0) (c .before .before .before .before .pre .1) (c .before .loop-test .taken) in omega (arith, c .before .before .loop .inv .1)
+with-digit-requires c κs =
+    let s = c .before .before .before .before in let a = s .args in
+    let p = few (a .decimal) (length (now (a .text))) (c .before .before .loop .i) (s .pre .0) (s .pre .1) (c .before .loop-test .taken) in
+    omega (arith, c .before .before .loop .inv .1)
 
 add-i : tie.Need-add-i Inv-loop μ-loop
 add-i c = search needs
@@ -35,7 +38,9 @@ loop-less c = search needs
 loop-again : tie.Need-loop-again Inv-loop μ-loop
 loop-again c =
     let a = c .before .before .before .before .before .args in let l = c .before .before .before .loop in
-    (omega arith, rw (c .with-digit .ensures) (digit-more (a .decimal) (l .i) (l .a) (getD (now (a .text)) (l .i) 0) (l .inv .1)), rw (c .with-digit .ensures) (sym (number-step (a .decimal) (now (a .text)) (l .i) (l .a) (c .before .before .loop-test .taken)) ∙ l .inv .2))
+    let m = digit-more (a .decimal) (l .i) (l .a) (getD (now (a .text)) (l .i) 0) (l .inv .1) in
+    let n = number-step (a .decimal) (now (a .text)) (l .i) (l .a) (c .before .before .loop-test .taken) in
+    (omega arith, rw (c .with-digit .ensures) m, rw (c .with-digit .ensures) (sym n ∙ l .inv .2))
 
 returns : tie.Need-returns Inv-loop μ-loop
 unfolding numberOn

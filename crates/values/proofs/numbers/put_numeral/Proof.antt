@@ -37,7 +37,9 @@ loop-less c = omega arith
 loop-again : tie.Need-loop-again Inv-loop μ-loop
 loop-again c =
     let l = c .before .before .before .loop in
-    (omega arith, simp length-set (l .inv .1), digit-step (c .before .before .before .before .before .args .decimal) (l .m) _ (c .quotient .ensures) (l .part) (l .i) _ (c .before .before .loop-test .taken) (omega arith) (c .before .low-digit .ensures) ∙ l .inv .2)
+    let d = c .before .before .before .before .before .args .decimal in
+    let g = digit-step d (l .m) _ (c .quotient .ensures) (l .part) (l .i) _ (c .before .before .loop-test .taken) (omega arith) (c .before .low-digit .ensures) in
+    (omega arith, simp length-set (l .inv .1), g ∙ l .inv .2)
 
 same-length : tie.Need-same-length Inv-loop μ-loop
 same-length c = c .before .loop .inv .1

@@ -20,7 +20,8 @@ form-of-requires c κs = search needs
 returns : tie.Need-returns
 returns c =
     let f = c .before .before in let a = f .before .before .before .args in
-    length-none (a .line) (a .rec) (f .form-of .result) (record-looked (a .line) (a .rec) _ _ (f .form-of .result) (f .before .before .type-of .ensures) (f .before .letter-of .ensures) (f .form-of .ensures)) (not-true _ (c .if1 .taken))
+    let row = record-looked (a .line) (a .rec) _ _ (f .form-of .result) (f .before .before .type-of .ensures) (f .before .letter-of .ensures) (f .form-of .ensures) in
+    length-none (a .line) (a .rec) (f .form-of .result) row (not-true _ (c .if1 .taken))
 
 width-of-requires : tie.Need-width-of-requires
 width-of-requires c κs = search needs
@@ -31,8 +32,9 @@ add-result c = omega (arith, c .width-of .ensures .1)
 returns-2 : tie.Need-returns-2
 returns-2 c =
     let f = c .before .before .before .before in let a = f .before .before .before .args in
+    let row = record-looked (a .line) (a .rec) _ _ (f .form-of .result) (f .before .before .type-of .ensures) (f .before .letter-of .ensures) (f .form-of .ensures) in
     ap (λ (w : ℕ). 8 + w) (c .width-of .ensures .0)
-    ∙ length-row (a .line) (a .rec) (f .form-of .result) (record-looked (a .line) (a .rec) _ _ (f .form-of .result) (f .before .before .type-of .ensures) (f .before .letter-of .ensures) (f .form-of .ensures)) (not-false _ (c .before .before .if1 .left))
+    ∙ length-row (a .line) (a .rec) (f .form-of .result) row (not-false _ (c .before .before .if1 .left))
 
 pub length-of-spec : {M : Type 1} → statement M
 length-of-spec =

@@ -38,7 +38,8 @@ returns : tie.Need-returns Inv-loop μ-loop
 returns c =
     let s = c .before .before .before .before .before in let a = s .before .args in let l = c .before .before .before .before .loop in
     let x = c .before .before .low-digit in
-    sym (last-bad (a .line) (a .kind) (a .letter) (a .from) (s .is-decimal .result) (l .i) (l .m) _ (c .before .before .before .loop-test .taken) (x .ensures) (sym (c .before .permits-byte .ensures) ∙ not-true _ (c .if1 .taken)))
+    let g = sym (c .before .permits-byte .ensures) ∙ not-true _ (c .if1 .taken) in
+    sym (last-bad (a .line) (a .kind) (a .letter) (a .from) (s .is-decimal .result) (l .i) (l .m) _ (c .before .before .before .loop-test .taken) (x .ensures) g)
     ∙ l .inv .1 ∙ rw (s .is-decimal .ensures)
 
 quotient-requires : tie.Need-quotient-requires Inv-loop μ-loop
@@ -50,7 +51,9 @@ loop-less c = omega arith
 loop-again : tie.Need-loop-again Inv-loop μ-loop
 loop-again c =
     let b = c .before .before in let s = b .before .before .before .before in let a = s .before .args in let l = b .before .before .before .loop in
-    let g = last-good (a .line) (a .kind) (a .letter) (a .from) (s .is-decimal .result) (l .i) (l .m) _ (b .before .before .loop-test .taken) (b .before .low-digit .ensures) _ (c .quotient .ensures) (sym (b .permits-byte .ensures) ∙ not-false _ (c .before .if1 .left)) in
+    let p = sym (b .permits-byte .ensures) ∙ not-false _ (c .before .if1 .left) in
+    let x = b .before .low-digit in
+    let g = last-good (a .line) (a .kind) (a .letter) (a .from) (s .is-decimal .result) (l .i) (l .m) _ (b .before .before .loop-test .taken) (x .ensures) _ (c .quotient .ensures) p in
     (omega arith, sym g ∙ l .inv .1)
 
 returns-2 : tie.Need-returns-2 Inv-loop μ-loop

@@ -18,7 +18,8 @@ form-of-requires c κs = search needs
 returns : tie.Need-returns
 returns c =
     let f = c .before .before in let a = f .before .before .before .args in
-    record-none (a .line) (a .rec) (f .form-of .result) (record-looked (a .line) (a .rec) _ _ (f .form-of .result) (f .before .before .type-of .ensures) (f .before .letter-of .ensures) (f .form-of .ensures)) (not-true _ (c .if1 .taken))
+    let row = record-looked (a .line) (a .rec) _ _ (f .form-of .result) (f .before .before .type-of .ensures) (f .before .letter-of .ensures) (f .form-of .ensures) in
+    record-none (a .line) (a .rec) (f .form-of .result) row (not-true _ (c .if1 .taken))
 
 values-of-requires : tie.Need-values-of-requires
 values-of-requires c κs = search needs
@@ -29,8 +30,10 @@ permits-values-requires c κs = search needs
 returns-2 : tie.Need-returns-2
 returns-2 c =
     let f = c .before .before .before .before .before in let a = f .before .before .before .args in
+    let row = record-looked (a .line) (a .rec) _ _ (f .form-of .result) (f .before .before .type-of .ensures) (f .before .letter-of .ensures) (f .form-of .ensures) in
     c .permits-values .ensures
-    ∙ record-row (a .line) (a .rec) (f .form-of .result) (record-looked (a .line) (a .rec) _ _ (f .form-of .result) (f .before .before .type-of .ensures) (f .before .letter-of .ensures) (f .form-of .ensures)) _ _ (f .before .before .type-of .ensures) (c .before .values-of .ensures) (not-false _ (c .before .before .before .if1 .left))
+    ∙ record-row (a .line) (a .rec) (f .form-of .result) row _ _ (f .before .before .type-of .ensures) (c .before .values-of .ensures)
+    (not-false _ (c .before .before .before .if1 .left))
 
 pub permits-record-spec : {M : Type 1} → statement M
 permits-record-spec =
