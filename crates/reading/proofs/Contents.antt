@@ -7,14 +7,15 @@ use lib.ListN.{length, getD}
 use native.Mathlib.Nat.{add-zero}
 use native.Mathlib.Omega.{arith}
 use Rattle.records.specs.Refusals.{No, no}
-use Rattle.forms.specs.Forms.{formOf, slotsOf, isLine}
+use Rattle.forms.specs.Lines.{isLine}
+use Rattle.forms.specs.Forms.{formOf, slotsOf}
 use Rattle.records.specs.Records.{recordOf}
 use Rattle.forms.specs.declared.table.Looked.{Looked}
 use Rattle.reading.specs.declared.answers.Spot.{Spot}
 use Rattle.reading.specs.declared.answers.Spot.the-variants.{Nowhere, At}
 use Rattle.reading.specs.Answers.{Answer, accepted, refused, Fault, good, fails, firstFault, unless}
 use Rattle.reading.specs.Frame.{needs, fieldOf, frameChecks}
-use Rattle.reading.specs.Field.{outside, misshapen, badValue, valuesIn, fieldChecks}
+use Rattle.reading.specs.Field.{rowIn, outside, misshapen, badValue, valuesIn, fieldChecks}
 use Rattle.reading.specs.Reading.{inForm, recordIn, contentsOf, checks, readingOf}
 
 -- the answer for a row that was looked up, and the place of a byte outside the set
@@ -23,13 +24,17 @@ answer line kind l o d number =
     unless (firstFault 8 (needs (l .found) 3 ∷ o ∷ misshapen (l .form) d ∷ badValue line kind 5 (slotsOf (l .form)) d ∷ []))
     (accepted (recordOf kind (valuesIn 10 (slotsOf (l .form)) d)) number)
 
-whole : (line : ℕ) (s : List ℕ) → answer line (getD s 3 0) (formOf line (getD s 3 0)) (outside 5 (fieldOf s)) (fieldOf s) (getD s 4 0 - 48) ≡ contentsOf line s
+whole : (line : ℕ) (s : List ℕ) → answer line (getD s 3 0) (rowIn line s) (outside 5 (fieldOf s)) (fieldOf s) (getD s 4 0 - 48) ≡ contentsOf line s
 unfolding answer contentsOf fieldChecks recordIn
 whole line s = refl
 
-module _ (line : ℕ) (s : List ℕ) (kind : ℕ) (looked : Looked) (e : kind ≡ getD s 3 0) (f : looked ≡ formOf line kind) where
+-- the row that was looked up by the bytes' type and first letter is theirs
+pub looked-in : (line : ℕ) (s : List ℕ) (kind letter : ℕ) (looked : Looked) → kind ≡ getD s 3 0 → letter ≡ getD s 5 0 → looked ≡ formOf line kind letter → looked ≡ rowIn line s
+looked-in line s kind letter looked e l f = f ∙ ap (λ (x : ℕ). formOf line x letter) e ∙ ap (λ (x : ℕ). formOf line (getD s 3 0) x) l
+
+module _ (line : ℕ) (s : List ℕ) (kind : ℕ) (looked : Looked) (e : kind ≡ getD s 3 0) (r : looked ≡ rowIn line s) where
   same : (o : Spot) (d : List ℕ) (number : ℕ) → o ≡ outside 5 (fieldOf s) → d ≡ fieldOf s → number ≡ getD s 4 0 - 48 → answer line kind looked o d number ≡ contentsOf line s
-  same o d number g h k = let w = whole line s in let r : looked ≡ formOf line (getD s 3 0) = f ∙ ap (λ (x : ℕ). formOf line x) e in cc
+  same o d number g h k = let w = whole line s in cc
 
   pub strange-type : looked .found ≡ false → refused (no 8 3) ≡ contentsOf line s
   unfolding answer

@@ -5,7 +5,7 @@ use Prim.Native.Nat.{ℕ, zero, suc, _+_, _-_, _≤_, _<_}
 use native.Mathlib.Omega.{arith}
 use native.Mathlib.Numerals.{add-one}
 use native.Mathlib.Nat.{le-of-suc-le-suc}
-use lib.ListN.{length, take, drop, set, length-take, take-append-drop}
+use lib.ListN.{length, take, drop, set, take-append-drop}
 use lib.Seq.{drop-drop, drop-set-lt, take-suc-set}
 use Rattle.laws.specs.Truth.{pad}
 use Rattle.reading.specs.Field.{valuesIn}
@@ -34,7 +34,3 @@ zeros (suc n) (suc j) h = let e : suc n - suc j ≡ n - j = omega arith in rw e 
 pub filled-end : (vs : List ℕ) (j : ℕ) (d full : List ℕ) → j ≤ 10 → drop j vs ≡ drop j (pad 10 []) → take j vs ++ valuesIn (10 - j) [] d ≡ full → vs ≡ full
 filled-end vs j d full h e f =
     sym (take-append-drop j vs) ∙ ap (λ (l : List ℕ). take j vs ++ l) (e ∙ zeros 10 j h ∙ sym (none (10 - j) d)) ∙ f
-
--- a part has at most as many bytes as were asked for
-pub length-take-most : (n : ℕ) (l : List ℕ) → length (take n l) ≤ n
-length-take-most n l = omega (arith, length-take n l)

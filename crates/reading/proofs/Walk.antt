@@ -8,15 +8,13 @@ use native.Mathlib.Numerals.{add-one}
 use lib.ListN.{length, take, drop, getD}
 use lib.Seq.{drop-cons, drop-drop}
 use borrow.Author.Tests.{eq-eqb, ne-eqb}
-use Rattle.laws.specs.Truth.{every}
-use Rattle.laws.proofs.Truths.{both-left, both-right}
 use Rattle.characters.specs.Characters.{inSet}
 use Rattle.forms.specs.Forms.{slotsIn}
 use Rattle.values.specs.Values.{permitted, valueOf}
 use Rattle.characters.proofs.Parts.{part-first}
 use Rattle.forms.proofs.Slots.{slots-step}
 use Rattle.reading.specs.declared.answers.Spot.the-variants.{At}
-use Rattle.reading.specs.Field.{outside, wrongLetter, badValue, valuesIn, narrow, narrowSlot}
+use Rattle.reading.specs.Field.{outside, wrongLetter, badValue, valuesIn}
 
 -- one byte of the field
 module _ (d : List ℕ) (i : ℕ) (h : i < length d) where
@@ -60,9 +58,3 @@ module _ (ls ws d : List ℕ) (n j at : ℕ) (more : j < n) where
       ≡ valueOf (getD ls j 0) (take w (drop (at + 1) d)) ∷ valuesIn m (slotsIn (n - (j + 1)) (drop (j + 1) ls) (drop (j + 1) ws)) (drop (at + (1 + w)) d)
   unfolding valuesIn
   value-here m w e = rw (slots-step ls ws n j more, drop-drop 1 at d, ← e, drop-drop (1 + w) at d)
-
-  pub narrow-here : every narrowSlot (slotsIn (n - j) (drop j ls) (drop j ws)) ≡ true → narrow (getD ls j 0) (getD ws j 0) ≡ true
-  narrow-here h = both-left (narrow (getD ls j 0) (getD ws j 0)) (every narrowSlot (slotsIn (n - (j + 1)) (drop (j + 1) ls) (drop (j + 1) ws))) (rw (slots-step ls ws n j more) at h)
-
-  pub narrow-on : every narrowSlot (slotsIn (n - j) (drop j ls) (drop j ws)) ≡ true → every narrowSlot (slotsIn (n - (j + 1)) (drop (j + 1) ls) (drop (j + 1) ws)) ≡ true
-  narrow-on h = both-right (narrow (getD ls j 0) (getD ws j 0)) (every narrowSlot (slotsIn (n - (j + 1)) (drop (j + 1) ls) (drop (j + 1) ws))) (rw (slots-step ls ws n j more) at h)

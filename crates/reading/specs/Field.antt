@@ -1,15 +1,14 @@
 -- The data field: its packets, checks 8 to 11, and its values (01 'Telegram forms', 'Numbered answers'). Assumes nothing.
 use Prim.Native.Nat.{ℕ, zero, suc, _+_}
-use mathlib.Core.Bool.{Bool, cond}
+use mathlib.Core.Bool.{cond}
 use mathlib.Core.List.{List, [], _∷_, _++_}
-use lib.Dec.{eqb, leb}
+use lib.Dec.{eqb}
 use lib.ListN.{length, getD, take, drop}
-use Rattle.laws.specs.Truth.{both, either}
 use Rattle.characters.specs.Characters.{inSet}
-use Rattle.packets.specs.Packets.{isDecimal}
 use Rattle.forms.specs.Forms.{Slot, slotsOf, widthOf, formOf}
 use Rattle.values.specs.Values.{textOf, valueOf, permitted}
 use Rattle.forms.specs.declared.table.Form.{Form}
+use Rattle.forms.specs.declared.table.Looked.{Looked}
 use Rattle.reading.specs.Frame.{needs, fieldOf}
 use Rattle.reading.specs.declared.answers.Spot.{Spot}
 use Rattle.reading.specs.declared.answers.Spot.the-variants.{Nowhere, At}
@@ -51,26 +50,23 @@ valuesIn zero ps d = []
 valuesIn (suc n) [] d = 0 ∷ valuesIn n [] d
 valuesIn (suc n) (p ∷ ps) d = valueOf (p .letter) (valueText p d) ∷ valuesIn n ps (after p d)
 
--- a value of so many characters is a number of 32 bits
-unfoldable pub narrow : ℕ → ℕ → Bool
-narrow letter len = both (leb len 6) (either (isDecimal letter) (leb len 3))
-
-abbrev pub narrowSlot : Slot → Bool
-narrowSlot p = narrow (p .letter) (p .len)
-
 -- data field of another length (place 5), or a packet letter wrong
 unfoldable pub misshapen : Form → List ℕ → Spot
 misshapen f d = cond (eqb (length d) (widthOf f)) (wrongLetter 5 (slotsOf f) d) (At 5)
+
+-- the row of bytes on a line, by their type and the letter of their first packet
+abbrev pub rowIn : ℕ → List ℕ → Looked
+rowIn line s = formOf line (getD s 3 0) (getD s 5 0)
 
 -- checks 8 to 11, in order
 unfoldable pub fieldChecks : ℕ → List ℕ → List Spot
 fieldChecks line s =
     -- 8: type is not on this line
-    needs (formOf line (getD s 3 0) .found) 3 ∷
+    needs (rowIn line s .found) 3 ∷
     -- 9: data byte outside the set
     outside 5 (fieldOf s) ∷
     -- 10: data field of another length, or a packet letter wrong
-    misshapen (formOf line (getD s 3 0) .form) (fieldOf s) ∷
+    misshapen (rowIn line s .form) (fieldOf s) ∷
     -- 11: a value not permitted
-    badValue line (getD s 3 0) 5 (slotsOf (formOf line (getD s 3 0) .form)) (fieldOf s) ∷
+    badValue line (getD s 3 0) 5 (slotsOf (rowIn line s .form)) (fieldOf s) ∷
     []

@@ -5,18 +5,19 @@ use mathlib.Core.Bool.{cond}
 use mathlib.Core.List.{List, [], _∷_, _++_}
 use lib.ListN.{getD}
 use Rattle.records.specs.Refusals.{no}
-use Rattle.forms.specs.Forms.{slotsOf, formOf, isLine}
+use Rattle.forms.specs.Lines.{isLine}
+use Rattle.forms.specs.Forms.{slotsOf}
 use Rattle.records.specs.Records.{recordOf}
 use Rattle.records.specs.declared.records.Record.{Record}
 use Rattle.forms.specs.declared.table.Form.{Form}
 use Rattle.reading.specs.declared.answers.Spot.{Spot}
 use Rattle.reading.specs.Answers.{Answer, accepted, refused, firstFault, unless}
 use Rattle.reading.specs.Frame.{fieldOf, frameChecks}
-use Rattle.reading.specs.Field.{valuesIn, misshapen, badValue, fieldChecks}
+use Rattle.reading.specs.Field.{rowIn, valuesIn, misshapen, badValue, fieldChecks}
 
 -- the record that a telegram of a known type carries
 unfoldable pub recordIn : ℕ → List ℕ → Record
-recordIn line s = recordOf (getD s 3 0) (valuesIn 10 (slotsOf (formOf line (getD s 3 0) .form)) (fieldOf s))
+recordIn line s = recordOf (getD s 3 0) (valuesIn 10 (slotsOf (rowIn line s .form)) (fieldOf s))
 
 -- checks 10 and 11, and the record of a field that passes them
 unfoldable pub inForm : ℕ → ℕ → ℕ → List ℕ → Form → Answer

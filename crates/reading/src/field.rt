@@ -3,7 +3,7 @@ ghost use mathlib.Core.Path.{_≡_};
 ghost use Rattle.forms.specs.Forms.{slotsOf};
 ghost use Rattle.reading.specs.Field.{outside, wrongLetter, badValue, misshapen};
 use crate::answers::Spot;
-use characters::characters::in_set;
+use characters::characters::SET;
 use characters::slices::byte_at;
 use characters::slices::part;
 use characters::slices::wide;
@@ -12,13 +12,18 @@ use forms::table::count_of;
 use forms::table::width_of;
 use values::values::permits_text;
 
-// Check 9: the first byte outside the set.
+// Check 9: the first byte outside the set, whose table is made once for the field.
 pub(crate) fn outside_set(field: &[u8]) -> Spot
     ensures { λ r. ⌜ r ≡ outside 5 (now (field .entry)) ⌝ }
 {
+    let set = SET;
     let mut i: usize = 0;
     while i < field.len() {
-        if !in_set(field[i]) {
+        let b = field[i];
+        if 127 < b {
+            return Spot::At(5 + i);
+        }
+        if !set[b as usize] {
             return Spot::At(5 + i);
         }
         i = i + 1;

@@ -1,15 +1,9 @@
 // Reading a telegram (01 'Numbered answers'): 15 before all, then checks 1 to 11 in order, then its record and number.
 ghost use mathlib.Core.Path.{_≡_};
-ghost use mathlib.Core.Bool.{true, false};
-ghost use Prim.Native.Nat.{_+_, _*_, _-_, _%_, _≤_};
-ghost use lib.ListN.{length};
-ghost use Rattle.laws.specs.Truth.{every};
-ghost use Rattle.laws.specs.Numerals.{base, nought, numberOn};
+ghost use Prim.Native.Nat.{_-_};
 ghost use Rattle.forms.specs.Forms.{slotsOf};
-ghost use Rattle.packets.specs.Packets.{isDecimal};
-ghost use Rattle.values.specs.Values.{valueOf};
 ghost use Rattle.reading.specs.Answers.{answerOf};
-ghost use Rattle.reading.specs.Field.{valuesIn, narrowSlot};
+ghost use Rattle.reading.specs.Field.{valuesIn};
 ghost use Rattle.reading.specs.Reading.{inForm, contentsOf, readingOf};
 use crate::answers::Check;
 use crate::answers::Reading;
@@ -22,59 +16,16 @@ use characters::slices::byte_at;
 use characters::slices::less;
 use characters::slices::part;
 use characters::slices::wide;
+use forms::lines::is_line;
 use forms::table::Form;
 use forms::table::count_of;
 use forms::table::form_of;
-use forms::table::is_line;
-use packets::packets::is_decimal;
-use packets::packets::lead_of;
 use records::records::record_of;
 use records::refusals::Refusal;
-
-// The number that a number's digits and one digit more say.
-fn with_digit(decimal: bool, a: u32, b: u8) -> u32
-    requires { ⌜ a ≤ 10000000 ⌝ }
-    ensures { λ r. ⌜ r ≡ a * base decimal + (b - nought decimal) % base decimal ⌝ }
-{
-    if !decimal {
-        return a * 256 + (b as u32);
-    }
-    if b < b'0' {
-        return a * 10;
-    }
-    a * 10 + ((b - b'0') % 10) as u32
-}
-
-// The number that digits say.
-fn number_of(decimal: bool, text: &[u8]) -> u32
-    requires { ⌜ (length (now text) ≤ 6) × (decimal ≡ false → length (now text) ≤ 3) ⌝ }
-    ensures { λ r. ⌜ r ≡ numberOn decimal 0 (now (text .entry)) ⌝ }
-{
-    let mut a: u32 = 0;
-    let mut i: usize = 0;
-    while i < text.len() {
-        a = with_digit(decimal, a, text[i]);
-        i = i + 1;
-    }
-    a
-}
-
-// The number that the characters of a packet's value say.
-fn value_of(letter: u8, text: &[u8]) -> u32
-    requires { ⌜ (length (now text) ≤ 6) × (isDecimal letter ≡ false → length (now text) ≤ 3) ⌝ }
-    ensures { λ r. ⌜ r ≡ valueOf letter (now (text .entry)) ⌝ }
-{
-    let lead = lead_of(letter);
-    let decimal = is_decimal(letter);
-    if lead == 0 {
-        return number_of(decimal, text);
-    }
-    number_of(decimal, part(text, 1, text.len()))
-}
+use values::values::value_of;
 
 // The packets' values, with 0 in the places behind them.
 fn values_in(field: &[u8], form: Form) -> [u32; 10]
-    requires { ⌜ every narrowSlot (slotsOf form) ≡ true ⌝ }
     ensures { λ r. ⌜ r ≡ valuesIn 10 (slotsOf form) (now (field .entry)) ⌝ }
 {
     let letters = form.letters;
@@ -94,7 +45,6 @@ fn values_in(field: &[u8], form: Form) -> [u32; 10]
 
 // Checks 10 and 11, and the record of a field that passes them.
 fn in_form(line: u8, kind: u8, number: u8, field: &[u8], form: Form) -> Reading
-    requires { ⌜ every narrowSlot (slotsOf form) ≡ true ⌝ }
     ensures { λ r. ⌜ answerOf r ≡ inForm line kind number (now (field .entry)) form ⌝ }
 {
     let wrong = wrong_form(field, form);
@@ -120,7 +70,7 @@ fn contents(line: u8, s: &[u8]) -> Reading
     ensures { λ r. ⌜ answerOf r ≡ contentsOf line (now (s .entry)) ⌝ }
 {
     let kind = byte_at(s, 3);
-    let looked = form_of(line, kind);
+    let looked = form_of(line, kind, byte_at(s, 5));
     if !looked.found {
         return Reading::Refused(Refusal::Kind);
     }

@@ -1,3 +1,4 @@
-pub mod Numbers
+pub mod Digits
 pub mod Texts
+pub mod Spelt
 pub mod Recorded

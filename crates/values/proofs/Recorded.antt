@@ -4,15 +4,16 @@ use mathlib.Core.Bool.{true, false, cond}
 use mathlib.Core.List.{List}
 use Prim.Native.Nat.{ℕ, _+_}
 use Rattle.forms.specs.Forms.{formOf, slotsOf, widthOf}
-use Rattle.values.specs.Values.{permitsValues, permitsRecord, lengthOf}
-use Rattle.records.specs.Records.{typeOf, valuesOf}
+use Rattle.values.specs.Values.{rowOf, permitsValues, permitsRecord, lengthOf}
+use Rattle.records.specs.Records.{typeOf, letterOf, valuesOf}
 use Rattle.records.specs.declared.records.Record.{Record}
 use Rattle.forms.specs.declared.table.Looked.{Looked}
 
-module _ (line : ℕ) (rec : Record) (k : ℕ) (looked : Looked) (e : k ≡ typeOf rec) (f : looked ≡ formOf line k) where
-  row : looked ≡ formOf line (typeOf rec)
-  row = f ∙ ap (λ (x : ℕ). formOf line x) e
+-- the row that was looked up by a record's type and letter is its row
+pub record-looked : (line : ℕ) (rec : Record) (k letter : ℕ) (looked : Looked) → k ≡ typeOf rec → letter ≡ letterOf rec → looked ≡ formOf line k letter → looked ≡ rowOf line rec
+record-looked line rec k letter looked e l f = f ∙ ap (λ (x : ℕ). formOf line x letter) e ∙ ap (λ (x : ℕ). formOf line (typeOf rec) x) l
 
+module _ (line : ℕ) (rec : Record) (looked : Looked) (row : looked ≡ rowOf line rec) where
   -- its type is not on the line
   pub length-none : looked .found ≡ false → 0 ≡ lengthOf line rec
   unfolding lengthOf
@@ -26,8 +27,8 @@ module _ (line : ℕ) (rec : Record) (k : ℕ) (looked : Looked) (e : k ≡ type
   unfolding permitsRecord
   record-none h = subst (λ (l : Looked). false ≡ cond (l .found) (permitsValues line (typeOf rec) (slotsOf (l .form)) (valuesOf rec)) false) row (rw h)
 
-  pub record-row : (vs : List ℕ) → vs ≡ valuesOf rec → looked .found ≡ true → permitsValues line k (slotsOf (looked .form)) vs ≡ permitsRecord line rec
+  pub record-row : (k : ℕ) (vs : List ℕ) → k ≡ typeOf rec → vs ≡ valuesOf rec → looked .found ≡ true → permitsValues line k (slotsOf (looked .form)) vs ≡ permitsRecord line rec
   unfolding permitsRecord
-  record-row vs g h =
+  record-row k vs e g h =
       subst (λ (l : Looked). permitsValues line k (slotsOf (looked .form)) vs ≡ cond (l .found) (permitsValues line (typeOf rec) (slotsOf (l .form)) (valuesOf rec)) false) row
       (rw h (ap (λ (x : ℕ). permitsValues line x (slotsOf (looked .form)) vs) e ∙ ap (λ (x : List ℕ). permitsValues line (typeOf rec) (slotsOf (looked .form)) x) g))

@@ -2,16 +2,20 @@
 use mathlib.Core.Path.{_≡_, refl, sym, _∙_}
 use mathlib.Core.Bool.{Bool, true, false}
 use mathlib.Core.List.{List, [], _∷_, append-nil}
-use Prim.Native.Nat.{ℕ, suc, _+_, _-_, _<_}
+use Prim.Native.Nat.{ℕ, suc, _+_, _-_, _≤_, _<_}
 use native.Mathlib.Omega.{arith}
 use native.Mathlib.Numerals.{add-one}
-use lib.ListN.{length, drop, set, getD}
+use lib.Dec.{leb}
+use lib.ListN.{length, take, drop, set, getD, length-take}
 use lib.Seq.{drop-length, take-length, drop-cons, drop-drop}
 use borrow.Rule.Slice.PartMut.{putMid, midOf}
-use borrow.Author.Tests.{eq-eqb, ne-eqb}
+use borrow.Author.Tests.{eq-eqb, ne-eqb, leb-true}
+use Rattle.laws.specs.Truth.{either}
+use Rattle.laws.proofs.Truths.{clash, both-left, both-right}
+use Rattle.laws.proofs.Passes.{on-either}
 use Rattle.laws.specs.Numerals.{numeral}
 use Rattle.packets.specs.Packets.{leadOf, isDecimal, permits}
-use Rattle.values.specs.Values.{textOf, packetText, permittedFrom, permitted, permitsValue, permitsValues}
+use Rattle.values.specs.Values.{textOf, packetText, narrow, permittedFrom, permitsValue, permitsValues}
 use Rattle.forms.specs.Forms.{slotsIn}
 use Rattle.characters.proofs.Parts.{part-first}
 use Rattle.forms.proofs.Slots.{slots-step}
@@ -53,21 +57,14 @@ module _ (letter lead : ℕ) (decimal : Bool) (n : ℕ) (e : lead ≡ leadOf let
   text-led (a ∷ l) z h = let k : suc (length l) - 1 ≡ length l = omega arith in rw (ne-eqb (leadOf letter) 0 (λ q. z (e ∙ q)), k, e, f)
 
 -- one byte of a value
-module _ (line kind letter last at : ℕ) (s : List ℕ) (h : at < length s) where
-  pub byte-good : permits line kind letter last at (getD s at 0) ≡ true
-      → permittedFrom line kind letter last at (drop at s) ≡ permittedFrom line kind letter last (at + 1) (drop (at + 1) s)
+module _ (line kind letter at : ℕ) (s : List ℕ) (h : at < length s) where
+  pub byte-good : permits line kind letter at (getD s at 0) ≡ true → permittedFrom line kind letter at (drop at s) ≡ permittedFrom line kind letter (at + 1) (drop (at + 1) s)
   unfolding permittedFrom
   byte-good g = rw (drop-cons s at 0 h, g, add-one at)
 
-  pub byte-bad : permits line kind letter last at (getD s at 0) ≡ false → permittedFrom line kind letter last at (drop at s) ≡ false
+  pub byte-bad : permits line kind letter at (getD s at 0) ≡ false → permittedFrom line kind letter at (drop at s) ≡ false
   unfolding permittedFrom
   byte-bad g = rw (drop-cons s at 0 h, g)
-
--- a value of no bytes has none that is not permitted
-pub empty : (s : List ℕ) (line kind letter : ℕ) → length s ≡ 0 → true ≡ permitted line kind letter s
-unfolding permitted permittedFrom
-empty [] line kind letter h = refl
-empty (a ∷ s) line kind letter h = let z : ⊥ = omega arith in absurd z
 
 -- one value of a form's packets
 module _ (line kind : ℕ) (ls ws vs : List ℕ) (n j : ℕ) (more : j < n) where
@@ -80,3 +77,15 @@ module _ (line kind : ℕ) (ls ws vs : List ℕ) (n j : ℕ) (more : j < n) wher
       → permitsValues line kind (slotsIn (n - j) (drop j ls) (drop j ws)) (drop j vs) ≡ false
   unfolding permitsValues
   value-bad g = rw (slots-step ls ws n j more, part-first vs j, g)
+
+-- what it says of a value that it is narrow
+pub narrow-says : (letter w : ℕ) → narrow letter w ≡ true → (w ≤ 6) × (isDecimal letter ≡ false → w ≤ 3)
+unfolding narrow
+narrow-says letter w h = (
+  leb-true w 6 (both-left (leb w 6) (either (isDecimal letter) (leb w 3)) h),
+  λ e. on-either (isDecimal letter) (leb w 3) (both-right (leb w 6) _ h) (λ k. clash (sym e ∙ k)) (leb-true w 3),
+)
+
+-- a part has at most as many bytes as were asked for
+pub length-take-most : (n : ℕ) (l : List ℕ) → length (take n l) ≤ n
+length-take-most n l = omega (arith, length-take n l)

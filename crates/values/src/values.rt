@@ -1,65 +1,30 @@
-// A value's number and its characters, and whether a record is permitted (01 'Telegram forms', 'Values').
+// A packet's value as a number and as characters, and whether a record is permitted (01 'Telegram forms', 'Values').
 ghost use mathlib.Core.Path.{_≡_};
-ghost use Prim.Native.Nat.{ℕ, _+_, _-_, _/_, _%_, _<_};
-ghost use lib.ListN.{length, getD};
-ghost use Rattle.laws.specs.Numerals.{base, nought, numeral, leftOf};
+ghost use Prim.Native.Nat.{_≤_};
+ghost use lib.ListN.{length};
+ghost use Rattle.laws.specs.Numerals.{numeral};
 ghost use Rattle.forms.specs.Forms.{slotsOf};
-ghost use Rattle.values.specs.Values.{textOf, packetText, bodyOf, permitted, permitsValue, permitsValues, permitsRecord, lengthOf};
-use characters::slices::byte_at;
+ghost use Rattle.packets.specs.Packets.{isDecimal};
+ghost use Rattle.values.specs.Values.{textOf, packetText, bodyOf, narrow, valueOf, permittedFrom, numberFits, permitted, permitsValue, permitsValues, permitsRecord, lengthOf};
+use crate::numbers::left_of;
+use crate::numbers::low_digit;
+use crate::numbers::number_said;
+use crate::numbers::put_numeral;
+use crate::numbers::quotient;
+use characters::slices::part;
 use forms::table::Form;
 use forms::table::count_of;
 use forms::table::form_of;
 use forms::table::width_of;
 use packets::packets::is_decimal;
+use packets::packets::is_ruled;
 use packets::packets::lead_of;
 use packets::packets::permits_byte;
+use packets::packets::permits_number;
 use records::records::Record;
+use records::records::letter_of;
 use records::records::type_of;
 use records::records::values_of;
-
-// What is left of a number when its low digit is taken.
-fn quotient(decimal: bool, n: u32) -> u32
-    ensures { λ r. ⌜ r ≡ n / base decimal ⌝ }
-{
-    if decimal { n / 10 } else { n / 256 }
-}
-
-// The character of a number's low digit.
-fn low_digit(decimal: bool, n: u32) -> u8
-    ensures { λ r. ⌜ r ≡ nought decimal + n % base decimal ⌝ }
-{
-    if decimal {
-        (48 + n % 10) as u8
-    } else {
-        (n % 256) as u8
-    }
-}
-
-// Fills a part with a number's low digits.
-fn put_numeral(part: &mut [u8], decimal: bool, n: u32)
-    ensures { λ _. ⌜ now (part .exit) ≡ numeral decimal (length (now (part .entry))) n ⌝ }
-{
-    let mut m = n;
-    let mut i = part.len();
-    while 0 < i {
-        i = i - 1;
-        part[i] = low_digit(decimal, m);
-        m = quotient(decimal, m);
-    }
-}
-
-// What is left of a number when its w low digits are taken.
-fn left_of(decimal: bool, w: usize, n: u32) -> u32
-    ensures { λ r. ⌜ r ≡ leftOf decimal w n ⌝ }
-{
-    let mut m = n;
-    let mut i = w;
-    while 0 < i {
-        i = i - 1;
-        m = quotient(decimal, m);
-    }
-    m
-}
 
 // How many characters of a value of w are its number's.
 fn body_of(letter: u8, w: usize) -> usize
@@ -99,17 +64,50 @@ pub fn put_packet(part: &mut [u8], letter: u8, n: u32)
     put_value(&mut part[1..], letter, n);
 }
 
-// Whether the characters of a packet's value are permitted.
-pub fn permits_text(line: u8, kind: u8, letter: u8, text: &[u8]) -> bool
-    ensures { λ r. ⌜ r ≡ permitted line kind letter (now (text .entry)) ⌝ }
+// Whether a value of w characters is a number of 32 bits.
+pub fn is_narrow(letter: u8, w: usize) -> bool
+    ensures { λ r. ⌜ r ≡ narrow letter w ⌝ }
 {
-    if text.len() == 0 {
+    if 6 < w {
+        return false;
+    }
+    if is_decimal(letter) { true } else { w <= 3 }
+}
+
+// The number that the characters of a packet's value say, 0 where it is none of 32 bits.
+pub fn value_of(letter: u8, text: &[u8]) -> u32
+    ensures { λ r. ⌜ r ≡ valueOf letter (now (text .entry)) ⌝ }
+{
+    if !is_narrow(letter, text.len()) {
+        return 0;
+    }
+    if lead_of(letter) == 0 {
+        return number_said(is_decimal(letter), text);
+    }
+    number_said(is_decimal(letter), part(text, 1, text.len()))
+}
+
+// Whether a packet has no rule for its value's number, or the number of w characters passes it.
+fn number_fits(line: u8, letter: u8, w: usize, n: u32) -> bool
+    ensures { λ r. ⌜ r ≡ numberFits line letter w n ⌝ }
+{
+    if !is_ruled(line, letter) {
         return true;
     }
-    let last = byte_at(text, text.len() - 1);
+    if is_narrow(letter, w) {
+        permits_number(line, letter, n)
+    } else {
+        false
+    }
+}
+
+// Whether each character of a packet's value is permitted.
+fn permits_bytes(line: u8, kind: u8, letter: u8, text: &[u8]) -> bool
+    ensures { λ r. ⌜ r ≡ permittedFrom line kind letter 0 (now (text .entry)) ⌝ }
+{
     let mut at: usize = 0;
     while at < text.len() {
-        if !permits_byte(line, kind, letter, last, at, text[at]) {
+        if !permits_byte(line, kind, letter, at, text[at]) {
             return false;
         }
         at = at + 1;
@@ -117,12 +115,53 @@ pub fn permits_text(line: u8, kind: u8, letter: u8, text: &[u8]) -> bool
     true
 }
 
-// Whether the characters of a number are permitted as a packet's value that fills a part; they are written there.
-fn permits_in(text: &mut [u8], line: u8, kind: u8, letter: u8, n: u32) -> bool
-    ensures { λ r. ⌜ r ≡ permitted line kind letter (textOf letter (length (now (text .entry))) n) ⌝ }
+// Whether the characters of a packet's value are permitted; their number is asked for only where there is a rule for it.
+pub fn permits_text(line: u8, kind: u8, letter: u8, text: &[u8]) -> bool
+    ensures { λ r. ⌜ r ≡ permitted line kind letter (now (text .entry)) ⌝ }
 {
-    put_value(text, letter, n);
-    permits_text(line, kind, letter, text)
+    if !permits_bytes(line, kind, letter, text) {
+        return false;
+    }
+    if !is_ruled(line, letter) {
+        return true;
+    }
+    number_fits(line, letter, text.len(), value_of(letter, text))
+}
+
+// Whether the w low digits of a number are permitted as a value's characters from a place on, asked from the last to the first.
+fn permits_digits(line: u8, kind: u8, letter: u8, from: usize, w: usize, n: u32) -> bool
+    requires { ⌜ (from ≤ 1) × (w ≤ 255) ⌝ }
+    ensures { λ r. ⌜ r ≡ permittedFrom line kind letter from (numeral (isDecimal letter) w n) ⌝ }
+{
+    let decimal = is_decimal(letter);
+    let mut m = n;
+    let mut i = w;
+    while 0 < i {
+        i = i - 1;
+        if !permits_byte(line, kind, letter, from + i, low_digit(decimal, m)) {
+            return false;
+        }
+        m = quotient(decimal, m);
+    }
+    true
+}
+
+// Whether the w characters of a packet's value are permitted, one by one.
+fn permits_spelt(line: u8, kind: u8, letter: u8, w: usize, n: u32) -> bool
+    requires { ⌜ w ≤ 255 ⌝ }
+    ensures { λ r. ⌜ r ≡ permittedFrom line kind letter 0 (textOf letter w n) ⌝ }
+{
+    let lead = lead_of(letter);
+    if lead == 0 {
+        return permits_digits(line, kind, letter, 0, w, n);
+    }
+    if w == 0 {
+        return true;
+    }
+    if !permits_byte(line, kind, letter, 0, lead) {
+        return false;
+    }
+    permits_digits(line, kind, letter, 1, w - 1, n)
 }
 
 // Whether a number is permitted as a packet's value of so many characters.
@@ -133,8 +172,10 @@ pub fn permits_value(line: u8, kind: u8, letter: u8, len: u8, n: u32) -> bool
     if left_of(is_decimal(letter), body_of(letter, w), n) != 0 {
         return false;
     }
-    let mut text = [0u8; 256];
-    permits_in(&mut text[..w], line, kind, letter, n)
+    if !permits_spelt(line, kind, letter, w, n) {
+        return false;
+    }
+    number_fits(line, letter, w, n)
 }
 
 // Whether a record is permitted on a line.
@@ -142,7 +183,7 @@ pub fn permits_record(line: u8, rec: Record) -> bool
     ensures { λ r. ⌜ r ≡ permitsRecord line rec ⌝ }
 {
     let kind = type_of(rec);
-    let looked = form_of(line, kind);
+    let looked = form_of(line, kind, letter_of(rec));
     if !looked.found {
         return false;
     }
@@ -151,7 +192,7 @@ pub fn permits_record(line: u8, rec: Record) -> bool
 }
 
 // Whether each value of a form's packets is permitted.
-fn permits_values(line: u8, kind: u8, form: Form, values: [u32; 10]) -> bool
+pub fn permits_values(line: u8, kind: u8, form: Form, values: [u32; 10]) -> bool
     ensures { λ r. ⌜ r ≡ permitsValues line kind (slotsOf form) values ⌝ }
 {
     let letters = form.letters;
@@ -171,7 +212,7 @@ fn permits_values(line: u8, kind: u8, form: Form, values: [u32; 10]) -> bool
 pub fn length_of(line: u8, rec: Record) -> usize
     ensures { λ r. ⌜ r ≡ lengthOf line rec ⌝ }
 {
-    let looked = form_of(line, type_of(rec));
+    let looked = form_of(line, type_of(rec), letter_of(rec));
     if !looked.found {
         return 0;
     }

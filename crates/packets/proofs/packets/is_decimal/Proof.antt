@@ -1,137 +1,61 @@
 -- `packets::packets::is_decimal` meets its contract. Assumes nothing.
+use Rattle.laws.proofs.Tests.{tests}
 use Rattle.packets.specs.Packets.{isDecimal}
-use borrow.Author.Needs.{needs}
 use Rattle.packets.proofs.packets.is_decimal.Statement.{statement}
 use Rattle.packets.proofs.packets.is_decimal.Tie as tie
 
-packet-of-requires : tie.Need-packet-of-requires
-packet-of-requires c κs = search needs
-
-enum-told : tie.Need-enum-told
-enum-told c = search needs
-
-enum-told-2 : tie.Need-enum-told-2
-enum-told-2 c = search needs
-
-enum-told-3 : tie.Need-enum-told-3
-enum-told-3 c = search needs
-
-enum-told-4 : tie.Need-enum-told-4
-enum-told-4 c = search needs
-
-enum-told-5 : tie.Need-enum-told-5
-enum-told-5 c = search needs
-
-enum-told-6 : tie.Need-enum-told-6
-enum-told-6 c = search needs
-
-enum-told-7 : tie.Need-enum-told-7
-enum-told-7 c = search needs
-
-enum-told-8 : tie.Need-enum-told-8
-enum-told-8 c = search needs
-
-enum-told-9 : tie.Need-enum-told-9
-enum-told-9 c = search needs
-
-enum-told-10 : tie.Need-enum-told-10
-enum-told-10 c = search needs
-
-enum-told-11 : tie.Need-enum-told-11
-enum-told-11 c = search needs
-
-enum-told-12 : tie.Need-enum-told-12
-enum-told-12 c = search needs
-
-enum-told-13 : tie.Need-enum-told-13
-enum-told-13 c = search needs
-
-enum-told-14 : tie.Need-enum-told-14
-enum-told-14 c = search needs
-
-enum-told-15 : tie.Need-enum-told-15
-enum-told-15 c = search needs
-
 returns : tie.Need-returns
 unfolding isDecimal
-returns c = rw (← (c .before .before .packet-of .ensures), c .enum-told .given .1)
+returns c = rw (c .match .keys1)
 
 returns-2 : tie.Need-returns-2
 unfolding isDecimal
-returns-2 c = rw (← (c .before .before .packet-of .ensures), c .enum-told2 .given .1)
+returns-2 c = rw (c .match .keys2)
 
 returns-3 : tie.Need-returns-3
 unfolding isDecimal
-returns-3 c = rw (← (c .before .before .packet-of .ensures), c .enum-told3 .given .1)
+returns-3 c = rw (c .match .keys3)
 
 returns-4 : tie.Need-returns-4
 unfolding isDecimal
-returns-4 c = rw (← (c .before .before .packet-of .ensures), c .enum-told4 .given .1)
+returns-4 c = rw (c .match .keys4)
 
 returns-5 : tie.Need-returns-5
 unfolding isDecimal
-returns-5 c = rw (← (c .before .before .packet-of .ensures), c .enum-told5 .given .1)
+returns-5 c = rw (c .match .keys5)
 
 returns-6 : tie.Need-returns-6
 unfolding isDecimal
-returns-6 c = rw (← (c .before .before .packet-of .ensures), c .enum-told6 .given .1)
+returns-6 c = rw (c .match .keys6)
 
 returns-7 : tie.Need-returns-7
 unfolding isDecimal
-returns-7 c = rw (← (c .before .before .packet-of .ensures), c .enum-told7 .given .1)
+returns-7 c = rw (c .match .keys7)
 
 returns-8 : tie.Need-returns-8
 unfolding isDecimal
-returns-8 c = rw (← (c .before .before .packet-of .ensures), c .enum-told8 .given .1)
+returns-8 c = rw (c .match .keys8)
 
 returns-9 : tie.Need-returns-9
 unfolding isDecimal
-returns-9 c = rw (← (c .before .before .packet-of .ensures), c .enum-told9 .given .1)
+returns-9 c = rw (c .match .keys9)
 
 returns-10 : tie.Need-returns-10
 unfolding isDecimal
-returns-10 c = rw (← (c .before .before .packet-of .ensures), c .enum-told10 .given .1)
+returns-10 c = rw (c .match .keys10)
 
 returns-11 : tie.Need-returns-11
 unfolding isDecimal
-returns-11 c = rw (← (c .before .before .packet-of .ensures), c .enum-told11 .given .1)
+returns-11 c = rw (c .match .keys11)
 
 returns-12 : tie.Need-returns-12
 unfolding isDecimal
-returns-12 c = rw (← (c .before .before .packet-of .ensures), c .enum-told12 .given .1)
-
-returns-13 : tie.Need-returns-13
-unfolding isDecimal
-returns-13 c = rw (← (c .before .before .packet-of .ensures), c .enum-told13 .given .1)
-
-returns-14 : tie.Need-returns-14
-unfolding isDecimal
-returns-14 c = rw (← (c .before .before .packet-of .ensures), c .enum-told14 .given .1)
-
-returns-15 : tie.Need-returns-15
-unfolding isDecimal
-returns-15 c = rw (← (c .before .before .packet-of .ensures), c .enum-told15 .given .1)
+returns-12 c = search tests
 
 pub is-decimal-spec : {M : Type 1} → statement M
 is-decimal-spec =
     tie.close
     (tie.spec
-    packet-of-requires
-    enum-told
-    enum-told-2
-    enum-told-3
-    enum-told-4
-    enum-told-5
-    enum-told-6
-    enum-told-7
-    enum-told-8
-    enum-told-9
-    enum-told-10
-    enum-told-11
-    enum-told-12
-    enum-told-13
-    enum-told-14
-    enum-told-15
     returns
     returns-2
     returns-3
@@ -143,7 +67,4 @@ is-decimal-spec =
     returns-9
     returns-10
     returns-11
-    returns-12
-    returns-13
-    returns-14
-    returns-15)
+    returns-12)

@@ -25,7 +25,9 @@ enum-known-bad c = search needs
 
 returns-2 : tie.Need-returns-2
 unfolding inForm
-returns-2 c = rw (← (c .before .before .before .before .before .before .wrong-form .ensures), c .before .before .before .before .enum-told .given .1, ← (c .before .before .before .bad-value .ensures), c .before .bad .given .1)
+returns-2 c =
+    let b = c .before .before .before in
+    rw (← (b .before .before .before .wrong-form .ensures), b .before .enum-told .given .1, ← (b .bad-value .ensures), c .before .bad .given .1)
 
 enum-told-2 : tie.Need-enum-told-2
 enum-told-2 c = search needs
@@ -38,7 +40,16 @@ record-of-requires c κs = search needs
 
 returns-3 : tie.Need-returns-3
 unfolding inForm
-returns-3 c = rw (← (c .before .before .before .before .before .before .before .wrong-form .ensures), c .before .before .before .before .before .enum-told .given .1, ← (c .before .before .before .before .bad-value .ensures), c .before .before .enum-told2 .given .1, c .record-of .ensures, c .before .values-in .ensures)
+returns-3 c =
+    let b = c .before .before .before .before in
+    rw (
+      ← (b .before .before .before .wrong-form .ensures),
+      b .before .enum-told .given .1,
+      ← (b .bad-value .ensures),
+      c .before .before .enum-told2 .given .1,
+      c .record-of .ensures,
+      c .before .values-in .ensures,
+    )
 
 pub in-form-spec : {M : Type 1} → statement M
 in-form-spec =

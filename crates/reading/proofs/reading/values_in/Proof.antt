@@ -1,13 +1,11 @@
 -- `reading::reading::values_in` meets its contract. Assumes nothing.
-use Rattle.reading.proofs.Narrow.{narrow-says}
-use Rattle.reading.proofs.Filled.{filled-step, behind-step, filled-end, length-take-most}
-use Rattle.reading.proofs.Walk.{value-here, narrow-here, narrow-on}
-use Rattle.reading.specs.Field.{valuesIn, narrowSlot}
+use Rattle.reading.proofs.Filled.{filled-step, behind-step, filled-end}
+use Rattle.reading.proofs.Walk.{value-here}
+use Rattle.reading.specs.Field.{valuesIn}
 use Rattle.values.specs.Values.{valueOf}
-use Rattle.laws.specs.Truth.{every, pad}
+use Rattle.laws.specs.Truth.{pad}
 use lib.ListN.{length-set, length, take, drop, getD}
 use mathlib.Core.List.{List, [], _++_}
-use mathlib.Core.Bool.{true}
 use Prim.Native.Nat.{suc, ℕ, _≤_, _+_, _-_, _*_}
 use Rattle.forms.proofs.Slots.{count-small, slots-end}
 use Rattle.forms.specs.Forms.{slotsIn, slotsOf}
@@ -19,7 +17,9 @@ use Rattle.reading.proofs.reading.values_in.Statement.{statement}
 use Rattle.reading.proofs.reading.values_in.Tie as tie
 
 abbrev Inv-loop : tie.InvT-loop
-Inv-loop field letters lens count values₀ at₀ j₀ values at j = (count ≤ 10) × (j ≤ count) × (at ≤ 256 * j) × (length values ≡ 10) × (drop j values ≡ drop j (pad 10 [])) × (take j values ++ valuesIn (10 - j) (slotsIn (count - j) (drop j letters) (drop j lens)) (drop at field) ≡ valuesIn 10 (slotsIn count letters lens) field) × (every narrowSlot (slotsIn (count - j) (drop j letters) (drop j lens)) ≡ true)
+Inv-loop field letters lens count values₀ at₀ j₀ values at j =
+    (count ≤ 10) × (j ≤ count) × (at ≤ 256 * j) × (length values ≡ 10) × (drop j values ≡ drop j (pad 10 []))
+    × (take j values ++ valuesIn (10 - j) (slotsIn (count - j) (drop j letters) (drop j lens)) (drop at field) ≡ valuesIn 10 (slotsIn count letters lens) field)
 
 abbrev μ-loop : tie.MeasureT-loop
 μ-loop field letters lens count values₀ at₀ j₀ values at j = count - j
@@ -28,10 +28,9 @@ count-of-requires : tie.Need-count-of-requires Inv-loop μ-loop
 count-of-requires c κs = search needs
 
 loop-holds : tie.Need-loop-holds Inv-loop μ-loop
-unfolding slotsOf
 loop-holds c =
     let z : c .count-of .result - 0 ≡ c .count-of .result = omega arith in
-    (omega (arith, c .count-of .ensures, count-small (c .before .before .before .before .args .form)), omega arith, omega arith, refl, refl, rw z, rw (z, c .count-of .ensures) (c .before .before .before .before .pre))
+    (omega (arith, c .count-of .ensures, count-small (c .before .before .before .before .args .form)), omega arith, omega arith, refl, refl, rw z)
 
 array-read-wide : tie.Need-array-read-wide Inv-loop μ-loop
 array-read-wide c = search needs
@@ -49,10 +48,7 @@ part-requires : tie.Need-part-requires Inv-loop μ-loop
 part-requires c κs = search needs
 
 value-of-requires : tie.Need-value-of-requires Inv-loop μ-loop
-value-of-requires c κs =
-    let p = narrow-says _ _ (narrow-here (c .before .before .before .before .before .before .before .before .args .form .letters) (c .before .before .before .before .before .before .before .before .args .form .lens) (now (c .before .before .before .before .before .before .before .before .args .field)) (c .before .before .before .before .count-of .result) (c .before .before .before .loop .j) (c .before .before .before .loop .at) (c .before .before .loop-test .taken) (c .before .before .before .loop .inv .6)) in
-    let k : length (now (c .part .result)) ≤ c .before .wide .result = rw (c .part .ensures) (length-take-most (c .before .wide .result) (drop (c .before .before .before .loop .at + 1) (now (c .before .before .before .before .before .before .before .before .args .field)))) in
-    (omega (arith, p .0, c .before .wide .ensures .0), λ e. omega (arith, p .1 e, c .before .wide .ensures .0))
+value-of-requires c κs = search needs
 
 mul-values : tie.Need-mul-values Inv-loop μ-loop
 mul-values c = search needs
@@ -74,19 +70,28 @@ loop-less c = search needs
 
 loop-again : tie.Need-loop-again Inv-loop μ-loop
 loop-again c =
-    let l = c .before .before .before .before .loop in
-    let w = c .before .before .wide .result in
+    let l = c .before .before .before .before .loop in let a = c .before .before .before .before .before .before .before .before .before .args in
+    let w = c .before .before .wide in
     let k : 10 - l .j ≡ suc (10 - (l .j + 1)) = omega arith in
-    let x : c .value-of .result ≡ valueOf (getD (c .before .before .before .before .before .before .before .before .before .args .form .letters) (l .j) 0) (take w (drop (l .at + 1) (now (c .before .before .before .before .before .before .before .before .before .args .field)))) = c .value-of .ensures ∙ ap (λ (t : List ℕ). valueOf (getD (c .before .before .before .before .before .before .before .before .before .args .form .letters) (l .j) 0) t) (c .before .part .ensures) in
-    let g = rw (k, value-here (c .before .before .before .before .before .before .before .before .before .args .form .letters) (c .before .before .before .before .before .before .before .before .before .args .form .lens) (now (c .before .before .before .before .before .before .before .before .before .args .field)) (c .before .before .before .before .before .count-of .result) (c .before .before .before .before .loop .j) (c .before .before .before .before .loop .at) (c .before .before .before .loop-test .taken) (10 - (l .j + 1)) w (c .before .before .wide .ensures .0), ← x) at (l .inv .5) in
-    (l .inv .0, omega arith, omega (arith, c .before .before .wide .ensures .1), simp length-set (l .inv .3), behind-step (l .values) (pad 10 []) (l .j) (c .value-of .result) (l .inv .4), filled-step (l .values) (l .j) (c .value-of .result) _ _ (omega arith) g, narrow-on (c .before .before .before .before .before .before .before .before .before .args .form .letters) (c .before .before .before .before .before .before .before .before .before .args .form .lens) (now (c .before .before .before .before .before .before .before .before .before .args .field)) (c .before .before .before .before .before .count-of .result) (c .before .before .before .before .loop .j) (c .before .before .before .before .loop .at) (c .before .before .before .loop-test .taken) (l .inv .6))
+    let t = take (w .result) (drop (l .at + 1) (now (a .field))) in
+    let x : c .value-of .result ≡ valueOf (getD (a .form .letters) (l .j) 0) t = c .value-of .ensures ∙ ap (λ (u : List ℕ). valueOf (getD (a .form .letters) (l .j) 0) u) (c .before .part .ensures) in
+    let n = c .before .before .before .before .before .count-of .result in
+    let h = value-here (a .form .letters) (a .form .lens) (now (a .field)) n (l .j) (l .at) (c .before .before .before .loop-test .taken) (10 - (l .j + 1)) (w .result) (w .ensures .0) in
+    let g = rw (k, h, ← x) at (l .inv .5) in (
+      l .inv .0,
+      omega arith,
+      omega (arith, w .ensures .1),
+      simp length-set (l .inv .3),
+      behind-step (l .values) (pad 10 []) (l .j) (c .value-of .result) (l .inv .4),
+      filled-step (l .values) (l .j) (c .value-of .result) _ _ (omega arith) g,
+    )
 
 returns : tie.Need-returns Inv-loop μ-loop
 unfolding slotsOf
 returns c =
     let a = c .before .before .before .before .before .before .args in let l = c .before .loop in let n = c .before .before .count-of .result in
     let e : slotsIn (n - l .j) (drop (l .j) (a .form .letters)) (drop (l .j) (a .form .lens)) ≡ [] = slots-end (drop (l .j) (a .form .letters)) (drop (l .j) (a .form .lens)) n (l .j) (c .loop-test .left) in
-    filled-end (l .values) (l .j) (drop (l .at) (now (c .before .before .before .before .before .before .args .field))) _ (omega arith) (l .inv .4) (rw e at (l .inv .5)) ∙ rw (c .before .before .count-of .ensures)
+    filled-end (l .values) (l .j) (drop (l .at) (now (a .field))) _ (omega arith) (l .inv .4) (rw e at (l .inv .5)) ∙ rw (c .before .before .count-of .ensures)
 
 pub values-in-spec : {M : Type 1} → statement M
 values-in-spec =

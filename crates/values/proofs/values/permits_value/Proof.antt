@@ -1,10 +1,7 @@
 -- `values::values::permits_value` meets its contract. Assumes nothing.
-use Rattle.values.specs.Values.{permitted, textOf, permitsValue}
-use lib.Seq.{length-take-le}
-use Prim.Native.Nat.{ℕ}
 use borrow.Author.Tests.{eq-eqb, ne-eqb}
-use native.Mathlib.Omega.{arith}
-use mathlib.Core.Path.{sym, ap, _∙_}
+use Rattle.laws.proofs.Truths.{not-true, not-false}
+use Rattle.values.specs.Values.{permitsValue}
 use borrow.Author.Needs.{needs}
 use Rattle.values.proofs.values.permits_value.Statement.{statement}
 use Rattle.values.proofs.values.permits_value.Tie as tie
@@ -22,18 +19,37 @@ returns : tie.Need-returns
 unfolding permitsValue
 returns c = rw (← (c .before .before .before .is-decimal .ensures), ← (c .before .before .body-of .ensures), ← (c .before .left-of .ensures), ne-eqb _ _ (c .if1 .taken))
 
-array-borrow-prefix-text : tie.Need-array-borrow-prefix-text
-array-borrow-prefix-text c = search needs
-
-slice-aggregate-permits-in : tie.Need-slice-aggregate-permits-in
-slice-aggregate-permits-in c = sym (length-take-le (c .before .before .before .before .before .args .len) _ (omega arith))
-
-permits-in-requires : tie.Need-permits-in-requires
-permits-in-requires c κs = search needs
+permits-spelt-requires : tie.Need-permits-spelt-requires
+permits-spelt-requires c κs = search needs
 
 returns-2 : tie.Need-returns-2
 unfolding permitsValue
-returns-2 c = rw (← (c .before .before .before .before .before .before .is-decimal .ensures), ← (c .before .before .before .before .before .body-of .ensures), ← (c .before .before .before .before .left-of .ensures), eq-eqb _ _ (c .before .before .before .if1 .left)) (c .before .permits-in .ensures ∙ ap (λ (w : ℕ). permitted (c .before .before .before .before .before .before .before .args .line) (c .before .before .before .before .before .before .before .args .kind) (c .before .before .before .before .before .before .before .args .letter) (textOf (c .before .before .before .before .before .before .before .args .letter) w (c .before .before .before .before .before .before .before .args .n))) (length-take-le (c .before .before .before .before .before .before .before .args .len) _ (omega arith)))
+returns-2 c =
+    let l = c .before .before .before in let s = c .before .permits-spelt in
+    rw (
+      ← (l .before .before .is-decimal .ensures),
+      ← (l .before .body-of .ensures),
+      ← (l .left-of .ensures),
+      eq-eqb _ _ (c .before .before .if1 .left),
+      ← (s .ensures),
+      not-true (s .result) (c .if2 .taken),
+    )
+
+number-fits-requires : tie.Need-number-fits-requires
+number-fits-requires c κs = search needs
+
+returns-3 : tie.Need-returns-3
+unfolding permitsValue
+returns-3 c =
+    let l = c .before .before .before .before in let s = c .before .before .permits-spelt in
+    rw (
+      ← (l .before .before .is-decimal .ensures),
+      ← (l .before .body-of .ensures),
+      ← (l .left-of .ensures),
+      eq-eqb _ _ (c .before .before .before .if1 .left),
+      ← (s .ensures),
+      not-false (s .result) (c .before .if2 .left),
+    ) (c .number-fits .ensures)
 
 pub permits-value-spec : {M : Type 1} → statement M
 permits-value-spec =
@@ -43,7 +59,7 @@ permits-value-spec =
     body-of-requires
     left-of-requires
     returns
-    array-borrow-prefix-text
-    slice-aggregate-permits-in
-    permits-in-requires
-    returns-2)
+    permits-spelt-requires
+    returns-2
+    number-fits-requires
+    returns-3)

@@ -22,10 +22,15 @@ same-length : tie.Need-same-length
 same-length c = c .before .before .put-numeral .kept .0
 
 returns : tie.Need-returns
-returns c = c .before .before .put-numeral .ensures ∙ text-plain (c .before .before .before .before .before .before .before .before .args .letter) (c .before .before .before .before .before .before .lead-of .result) (c .before .before .before .before .before .is-decimal .result) (c .before .before .before .before .before .before .before .before .args .n) (c .before .before .before .before .before .before .lead-of .ensures) (c .before .before .before .before .before .is-decimal .ensures) (length (now (c .before .before .before .before .before .before .before .before .args .part))) (c .before .before .before .before .if1 .taken)
+returns c =
+    let b = c .before .before .before .before .before in let a = b .before .before .before .args in
+    c .before .before .put-numeral .ensures
+    ∙ text-plain (a .letter) _ _ (a .n) (b .before .lead-of .ensures) (b .is-decimal .ensures) (length (now (a .part))) (c .before .before .before .before .if1 .taken)
 
 returns-2 : tie.Need-returns-2
-returns-2 c = text-none (c .before .before .before .before .before .args .letter) (c .before .before .before .lead-of .result) (c .before .before .is-decimal .result) (c .before .before .before .before .before .args .n) (c .before .before .before .lead-of .ensures) (c .before .before .is-decimal .ensures) (now (c .before .before .before .before .before .args .part)) (c .before .if1 .left) (c .if2 .taken)
+returns-2 c =
+    let b = c .before .before in let a = b .before .before .before .args in
+    text-none (a .letter) _ _ (a .n) (b .before .lead-of .ensures) (b .is-decimal .ensures) (now (a .part)) (c .before .if1 .left) (c .if2 .taken)
 
 slice-write-part : tie.Need-slice-write-part
 slice-write-part c = search needs
@@ -47,10 +52,11 @@ same-length-2 c = c .before .part2 .given .1 ∙ simp length-set
 
 returns-3 : tie.Need-returns-3
 returns-3 c =
-    let a = c .before .before .before .before .before .before .before .before .before .args in
-    let d = c .before .before .before .before .before .before .is-decimal .result in
-    behind-first (now (a .part)) (c .before .before .before .before .before .before .before .lead-of .result) _ (λ w. numeral d w (a .n)) (c .before .before .before .before .if2 .left) (c .before .before .put-numeral2 .ensures)
-    ∙ text-led (a .letter) (c .before .before .before .before .before .before .before .lead-of .result) d (a .n) (c .before .before .before .before .before .before .before .lead-of .ensures) (c .before .before .before .before .before .before .is-decimal .ensures) (now (a .part)) (c .before .before .before .before .before .if1 .left) (c .before .before .before .before .if2 .left)
+    let f = c .before .before .before .before in let b = f .before .before in let a = b .before .before .before .args in
+    let d = b .is-decimal .result in
+    let l = b .before .lead-of in
+    behind-first (now (a .part)) (l .result) _ (λ w. numeral d w (a .n)) (f .if2 .left) (c .before .before .put-numeral2 .ensures)
+    ∙ text-led (a .letter) (l .result) d (a .n) (l .ensures) (b .is-decimal .ensures) (now (a .part)) (f .before .if1 .left) (f .if2 .left)
 
 pub put-value-spec : {M : Type 1} → statement M
 put-value-spec =

@@ -1,0 +1,12 @@
+-- `packets::packets::is_ruled` meets its contract. Assumes nothing.
+use mathlib.Core.Path.{refl}
+use Rattle.packets.specs.Packets.{ruled}
+use Rattle.packets.proofs.packets.is_ruled.Statement.{statement}
+use Rattle.packets.proofs.packets.is_ruled.Tie as tie
+
+returns : tie.Need-returns
+unfolding ruled
+returns c = refl
+
+pub is-ruled-spec : {M : Type 1} → statement M
+is-ruled-spec = tie.close (tie.spec returns)

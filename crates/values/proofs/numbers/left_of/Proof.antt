@@ -1,0 +1,42 @@
+-- `values::numbers::left_of` meets its contract. Assumes nothing.
+use Rattle.values.proofs.Digits.{left-step}
+use Rattle.laws.specs.Numerals.{leftOf}
+use native.Mathlib.Omega.{arith}
+use mathlib.Core.Path.{_≡_, refl, _∙_}
+use borrow.Author.Needs.{needs}
+use Rattle.values.proofs.numbers.left_of.Statement.{statement}
+use Rattle.values.proofs.numbers.left_of.Tie as tie
+
+abbrev Inv-loop : tie.InvT-loop
+Inv-loop decimal w n m₀ i₀ m i = leftOf decimal i m ≡ leftOf decimal w n
+
+abbrev μ-loop : tie.MeasureT-loop
+μ-loop decimal w n m₀ i₀ m i = i
+
+loop-holds : tie.Need-loop-holds Inv-loop μ-loop
+loop-holds c = refl
+
+sub-i : tie.Need-sub-i Inv-loop μ-loop
+sub-i c = omega arith
+
+quotient-requires : tie.Need-quotient-requires Inv-loop μ-loop
+quotient-requires c κs = search needs
+
+loop-less : tie.Need-loop-less Inv-loop μ-loop
+loop-less c = omega arith
+
+loop-again : tie.Need-loop-again Inv-loop μ-loop
+loop-again c =
+    let l = c .before .before .loop in
+    left-step (c .before .before .before .args .decimal) (l .m) _ (c .quotient .ensures) (l .i) (c .before .loop-test .taken) ∙ l .inv
+
+returns : tie.Need-returns Inv-loop μ-loop
+unfolding leftOf
+returns c =
+    let h : c .before .loop .i ≡ 0 = omega arith in
+    rw h at (c .before .loop .inv)
+
+pub left-of-spec : {M : Type 1} → statement M
+left-of-spec =
+    tie.close
+    (tie.spec Inv-loop μ-loop loop-holds sub-i quotient-requires loop-less loop-again returns)
