@@ -23,7 +23,8 @@ use Rattle.reading.specs.Field.{outside, wrongLetter, badValue, valuesIn, missh
 use Rattle.reading.specs.Reading.{recordIn, checks, readingOf}
 use Rattle.turns.specs.Turns.{turnOf}
 use Rattle.cutting.specs.Search.{cutFrom, spanOf}
-use Rattle.listings.specs.Numbers.{countOn, digitCount, decimalText}
+use Rattle.text.specs.Numbers.{countOn, digitCount, decimalText}
+use Rattle.text.specs.Items.{refusalText}
 use Rattle.listings.specs.Lines.{lineText}
 use Rattle.captures.specs.Pieces.{spansOn, spansOf, lineAt, linesIn, linesOf, lineNamed, listingOf}
 
@@ -36,7 +37,7 @@ printed text = codes text ++ (lf ∷ [])
 
 -- digit 3 and the telegrams of a and i
 pub paper-listing : listingOf (codes "3" ++ (framed "08A0AAA5" ++ framed "08A0AAA6")) ≡ printed "1 0 ok A 0" ++ printed "2 10 no 6 7"
-unfolding numeralOn numberOn inSet total checksumOf checkText forms onLine lookIn formOf dataIn dataType slotsIn countOf slotsOf widthIn widthOf packetOf leadOf isDecimal permits valueOf permittedFrom permitted recordOf countText summedOf fieldOf frameChecks outside wrongLetter badValue valuesIn misshapen fieldChecks recordIn checks readingOf turnOf cutFrom spanOf countOn digitCount decimalText lineText spansOn spansOf lineAt linesIn linesOf lineNamed listingOf
+unfolding numeralOn numberOn inSet total checksumOf checkText forms onLine lookIn formOf dataIn dataType slotsIn countOf slotsOf widthIn widthOf packetOf leadOf isDecimal permits valueOf permittedFrom permitted recordOf countText summedOf fieldOf frameChecks outside wrongLetter badValue valuesIn misshapen fieldChecks recordIn checks readingOf turnOf cutFrom spanOf countOn digitCount decimalText refusalText lineText spansOn spansOf lineAt linesIn linesOf lineNamed listingOf
 paper-listing = refl
 
 -- empty input or any other first byte

@@ -13,7 +13,7 @@ use Rattle.cutting.specs.declared.search.Span.{Span}
 use Rattle.cutting.specs.declared.search.Span.the-variants.{Found, Nothing}
 use Rattle.cutting.specs.Search.{spanOf}
 use Rattle.captures.specs.declared.pieces.Listed.{Listed}
-use Rattle.listings.specs.Numbers.{puts}
+use Rattle.text.specs.Putting.{placed}
 use Rattle.listings.specs.Lines.{lineRoom}
 use Rattle.captures.specs.Pieces.{spanning, spansOf, wrapped, lineAt, linesIn, linesOf, stopped, listedIn, listPart}
 use Rattle.captures.proofs.Spans.{spans-step}
@@ -30,25 +30,25 @@ pub record Fills (line base : ℕ) (s : List ℕ) (ps : List (ℕ × ℕ)) (plac
 
 -- a text put into an output
 module _ (t out : List ℕ) (at : ℕ) (h : at ≤ length out) where
-  put-length : length (puts t at out .1) ≡ at + length t + (length out - (at + length t))
-  unfolding puts
+  put-length : length (placed t at out .1) ≡ at + length t + (length out - (at + length t))
+  unfolding placed
   put-length = omega (arith, length-append (take at out) (t ++ drop (at + length t) out), length-append t (drop (at + length t) out), length-take-le at out h, length-drop (at + length t) out)
 
   front : length (take at out ++ t) ≡ at + length t
   front = omega (arith, length-append (take at out) t, length-take-le at out h)
 
-  split : puts t at out .1 ≡ (take at out ++ t) ++ drop (at + length t) out
-  unfolding puts
+  split : placed t at out .1 ≡ (take at out ++ t) ++ drop (at + length t) out
+  unfolding placed
   split = sym (append-assoc (take at out) t (drop (at + length t) out))
 
-  put-take : take (at + length t) (puts t at out .1) ≡ take at out ++ t
+  put-take : take (at + length t) (placed t at out .1) ≡ take at out ++ t
   put-take = rw split (take-at (take at out ++ t) (drop (at + length t) out) (at + length t) front)
 
-  put-drop : (n : ℕ) → at + length t ≤ n → drop n (puts t at out .1) ≡ drop n out
+  put-drop : (n : ℕ) → at + length t ≤ n → drop n (placed t at out .1) ≡ drop n out
   put-drop n g =
       let k : at + length t + (n - (at + length t)) ≡ n = omega arith in
-      let d : drop (at + length t) (puts t at out .1) ≡ drop (at + length t) out = rw split (drop-at (take at out ++ t) (drop (at + length t) out) (at + length t) front) in
-      ap (λ (i : ℕ). drop i (puts t at out .1)) (sym k) ∙ sym (drop-drop (n - (at + length t)) (at + length t) (puts t at out .1))
+      let d : drop (at + length t) (placed t at out .1) ≡ drop (at + length t) out = rw split (drop-at (take at out ++ t) (drop (at + length t) out) (at + length t) front) in
+      ap (λ (i : ℕ). drop i (placed t at out .1)) (sym k) ∙ sym (drop-drop (n - (at + length t)) (at + length t) (placed t at out .1))
       ∙ ap (drop (n - (at + length t))) d ∙ drop-drop (n - (at + length t)) (at + length t) out ∙ ap (λ (i : ℕ). drop i out) k
 
 module _ (line base : ℕ) (s : List ℕ) where
@@ -57,15 +57,15 @@ module _ (line base : ℕ) (s : List ℕ) where
   unfolding listedIn
   grows [] place ordinal filled out h = omega arith
   grows ((start, end) ∷ ps) place ordinal filled out h =
-      go (leb lineRoom (length out - filled)) (grows ps end (wrapped (ordinal + 1)) (filled + length t) (puts t filled out .1))
+      go (leb lineRoom (length out - filled)) (grows ps end (wrapped (ordinal + 1)) (filled + length t) (placed t filled out .1))
     where
       t : List ℕ
       t = lineAt line ordinal base s (start, end)
 
       later : Listed × List ℕ
-      later = listedIn line base s ps end (wrapped (ordinal + 1)) (filled + length t) (puts t filled out .1)
+      later = listedIn line base s ps end (wrapped (ordinal + 1)) (filled + length t) (placed t filled out .1)
 
-      go : (b : Bool) → (filled + length t ≤ length (puts t filled out .1) → length (puts t filled out .1) ≤ length (later .1))
+      go : (b : Bool) → (filled + length t ≤ length (placed t filled out .1) → length (placed t filled out .1) ≤ length (later .1))
           → length out ≤ length (cond b later (stopped place ordinal filled false, out) .1)
       go true longer =
           let l = put-length t out filled h in
@@ -97,24 +97,24 @@ module _ (line base : ℕ) (s : List ℕ) where
       record { lines = rw (← e); behind = refl; reach = (omega arith, h); full = λ q. clash (sym q); done = λ q. (sym e, refl, refl) }
   fills ((start, end) ∷ ps) place ordinal filled out e h k =
       go (leb lineRoom (length out - filled)) (leb-false lineRoom (length out - filled)) k
-      (fills ps end (wrapped (ordinal + 1)) (filled + length t) (puts t filled out .1) (behind-first place start end ps e))
+      (fills ps end (wrapped (ordinal + 1)) (filled + length t) (placed t filled out .1) (behind-first place start end ps e))
     where
       t : List ℕ
       t = lineAt line ordinal base s (start, end)
 
       later : Listed × List ℕ
-      later = listedIn line base s ps end (wrapped (ordinal + 1)) (filled + length t) (puts t filled out .1)
+      later = listedIn line base s ps end (wrapped (ordinal + 1)) (filled + length t) (placed t filled out .1)
 
       here : Listed × List ℕ
       here = (stopped place ordinal filled false, out)
 
       go : (b : Bool) → (b ≡ false → length out - filled < lineRoom) → length (cond b later here .1) ≡ length out
-          → (filled + length t ≤ length (puts t filled out .1) → length (later .1) ≡ length (puts t filled out .1)
-          → Fills line base s ps end (wrapped (ordinal + 1)) (filled + length t) (puts t filled out .1) (later .0) (later .1))
+          → (filled + length t ≤ length (placed t filled out .1) → length (later .1) ≡ length (placed t filled out .1)
+          → Fills line base s ps end (wrapped (ordinal + 1)) (filled + length t) (placed t filled out .1) (later .0) (later .1))
           → Fills line base s ((start, end) ∷ ps) place ordinal filled out (cond b later here .0) (cond b later here .1)
       go true short same fill =
           let l = put-length t out filled h in
-          let g = grows ps end (wrapped (ordinal + 1)) (filled + length t) (puts t filled out .1) (omega arith) in
+          let g = grows ps end (wrapped (ordinal + 1)) (filled + length t) (placed t filled out .1) (omega arith) in
           let f = fill (omega arith) (omega arith) in
           record {
             lines = f .lines ∙ rw (put-take t out filled h) (append-assoc (take filled out) t (linesIn line (wrapped (ordinal + 1)) base s ps));

@@ -18,7 +18,7 @@ use Rattle.writing.specs.Writing.{Write}
 use Rattle.cutting.specs.declared.search.Span.{Span}
 use Rattle.cutting.specs.declared.search.Span.the-variants.{Found, Nothing}
 use Rattle.cutting.specs.Search.{spanOf, partOf}
-use Rattle.listings.specs.Numbers.{puts}
+use Rattle.text.specs.Putting.{placed}
 use Rattle.listings.specs.Lines.{lineRoom, putting, linePut}
 use Rattle.captures.specs.Pieces.{spansOf, wrapped, lineAt, stepFor, stepAt, stepOf, stopped, listedIn}
 use Rattle.captures.proofs.Spans.{found-within, spans-step}
@@ -44,7 +44,7 @@ module _ (line ordinal base : ℕ) (s : List ℕ) (place : ℕ) (out : List ℕ)
 first-line : (line ordinal base : ℕ) (s : List ℕ) (place : ℕ) (out : List ℕ) (filled start end : ℕ) → spanOf s place ≡ Found start end
     → listedIn line base s (spansOf s place) place ordinal filled out
     ≡ cond (leb lineRoom (length out - filled))
-    (listedIn line base s (spansOf s end) end (wrapped (ordinal + 1)) (filled + length (lineAt line ordinal base s (start, end))) (puts (lineAt line ordinal base s (start, end)) filled out .1))
+    (listedIn line base s (spansOf s end) end (wrapped (ordinal + 1)) (filled + length (lineAt line ordinal base s (start, end))) (placed (lineAt line ordinal base s (start, end)) filled out .1))
     (stopped place ordinal filled false, out)
 unfolding listedIn
 first-line line ordinal base s place out filled start end h = rw (spans-step s place, h)
@@ -62,8 +62,8 @@ module _ (line ordinal base : ℕ) (s : List ℕ) (place : ℕ) (out : List ℕ)
   left-length = ap length left-is ∙ length-drop filled out
 
   -- a text in front of what is left
-  put-left : (t x : List ℕ) → x ≡ t ++ drop (length t) left → putMid filled (length out - filled) out x ≡ puts t filled out .1
-  unfolding puts
+  put-left : (t x : List ℕ) → x ≡ t ++ drop (length t) left → putMid filled (length out - filled) out x ≡ placed t filled out .1
+  unfolding placed
   put-left t x e =
       let g : length (drop filled out) ≤ length out - filled = omega (arith, length-drop filled out) in
       let n : drop (length out - filled) (drop filled out) ≡ [] = drop-of-length-le (drop filled out) g in
@@ -78,7 +78,7 @@ module _ (line ordinal base : ℕ) (s : List ℕ) (place : ℕ) (out : List ℕ)
   Told step.the-variants.Nothing x = (stopped place ordinal filled true, putMid filled (length out - filled) out x) ≡ listedIn line base s (spansOf s place) place ordinal filled out
 
   same-left : putMid filled (length out - filled) out left ≡ out
-  unfolding puts
+  unfolding placed
   same-left = put-left [] left refl ∙ rw (add-zero filled) (take-append-drop filled out)
 
   found : (start end : ℕ) → spanOf s place ≡ Found start end → Told (stepAt line ordinal base s (Found start end) left .0) (stepAt line ordinal base s (Found start end) left .1)
@@ -89,7 +89,7 @@ module _ (line ordinal base : ℕ) (s : List ℕ) (place : ℕ) (out : List ℕ)
       t = lineAt line ordinal base s (start, end)
 
       room : (b : Bool) → leb lineRoom (length left) ≡ b → listedIn line base s (spansOf s place) place ordinal filled out
-          ≡ cond b (listedIn line base s (spansOf s end) end (wrapped (ordinal + 1)) (filled + length t) (puts t filled out .1)) (stopped place ordinal filled false, out)
+          ≡ cond b (listedIn line base s (spansOf s end) end (wrapped (ordinal + 1)) (filled + length t) (placed t filled out .1)) (stopped place ordinal filled false, out)
       room b q = first-line line ordinal base s place out filled start end h ∙ rw (← left-length, q)
 
       go : (b : Bool) → leb lineRoom (length left) ≡ b

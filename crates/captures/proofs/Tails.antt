@@ -7,7 +7,7 @@ use native.Mathlib.Nat.{zero-add}
 use native.Mathlib.Numerals.{add-one}
 use lib.ListN.{length, take, drop, getD, set, length-take, length-drop}
 use lib.Seq.{paste, paste-suc, length-take-le, take-length, getD-take, getD-drop, getD-append-add}
-use Rattle.listings.specs.Numbers.{puts}
+use Rattle.text.specs.Putting.{placed}
 use Rattle.captures.specs.Pieces.{tailOf, tailPut}
 
 module _ (place end : ℕ) (s : List ℕ) where
@@ -35,7 +35,7 @@ module _ (place end : ℕ) (s : List ℕ) where
 
   -- all are moved
   pub all-moved : (buf : List ℕ) (i n : ℕ) → n ≡ length (tailOf place end s) → i ≡ n → buf ≡ paste s 0 (tailOf place end s) i → (n, buf) ≡ tailPut place end s
-  unfolding tailPut puts
+  unfolding tailPut placed
   all-moved buf i n e f g =
       let k : i ≡ length (tailOf place end s) = f ∙ e in
       rw (e, zero-add (length (tailOf place end s))) (ap (λ (y : List ℕ). (length (tailOf place end s), y)) (g ∙ rw (k, take-length (tailOf place end s), zero-add (length (tailOf place end s)))))

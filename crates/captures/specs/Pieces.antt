@@ -14,7 +14,7 @@ use Rattle.cutting.specs.declared.search.Span.{Span}
 use Rattle.cutting.specs.declared.search.Span.the-variants.{Found, Nothing}
 use Rattle.cutting.specs.Search.{spanOf, partOf}
 use Rattle.captures.specs.declared.pieces.Listed.{Listed}
-use Rattle.listings.specs.Numbers.{puts}
+use Rattle.text.specs.Putting.{placed}
 use Rattle.listings.specs.Lines.{lineText, lineRoom, putting}
 use Rattle.captures.specs.declared.pieces.Step as step
 
@@ -82,7 +82,7 @@ unfoldable pub listedIn : ℕ → ℕ → List ℕ → List (ℕ × ℕ) → ℕ
 listedIn line base s [] place ordinal filled out = (stopped place ordinal filled true, out)
 listedIn line base s ((start, end) ∷ ps) place ordinal filled out =
     cond (leb lineRoom (length out - filled))
-    (listedIn line base s ps end (wrapped (ordinal + 1)) (filled + length (lineAt line ordinal base s (start, end))) (puts (lineAt line ordinal base s (start, end)) filled out .1))
+    (listedIn line base s ps end (wrapped (ordinal + 1)) (filled + length (lineAt line ordinal base s (start, end))) (placed (lineAt line ordinal base s (start, end)) filled out .1))
     (stopped place ordinal filled false, out)
 
 unfoldable pub listPart : ℕ → ℕ → ℕ → List ℕ → ℕ → List ℕ → Listed × List ℕ
@@ -97,4 +97,4 @@ abbrev pub tailOf : ℕ → ℕ → List ℕ → List ℕ
 tailOf place end s = take (end - place) (drop place s)
 
 unfoldable pub tailPut : ℕ → ℕ → List ℕ → ℕ × List ℕ
-tailPut place end s = puts (tailOf place end s) 0 s
+tailPut place end s = placed (tailOf place end s) 0 s

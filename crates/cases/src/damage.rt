@@ -6,10 +6,12 @@ use reading::answers::Reading;
 use reading::reading::read;
 use records::refusals::number_of;
 use records::refusals::place_of;
+use text::numbers::put_number;
+use text::putting::put_text;
 
 // Case h: LF, 21, B, 0, L125 %090 H120 R88, EC, CR.
 const H: [u8; 23] = [
-    10,
+    b'\n',
     b'2',
     b'1',
     b'B',
@@ -31,7 +33,7 @@ const H: [u8; 23] = [
     b'8',
     b'E',
     b'C',
-    13,
+    b'\r',
 ];
 
 // A refusal and its place; 0 where the telegram is accepted.
@@ -50,8 +52,8 @@ fn due_at(index: usize) -> Due {
 // The set, by the ranges of 001 section 5.3.1.
 fn of_set(b: u8) -> bool {
     match b {
-        32 | 37 | 40 | 41 | 43 | 45 | 58 => true,
-        48..=57 | 65..=93 | 97..=125 => true,
+        b' ' | b'%' | b'(' | b')' | b'+' | b'-' | b':' => true,
+        b'0'..=b'9' | b'A'..=b']' | b'a'..=b'}' => true,
         _ => false,
     }
 }
@@ -193,7 +195,7 @@ fn of_length(long: &[u8], n: usize) -> bool {
 
 fn lengths() -> u64 {
     let mut long = [b'0'; 4096];
-    long[0] = 10;
+    long[0] = b'\n';
     let mut good: u64 = 0;
     for n in 0..4096usize {
         if of_length(&long, n) {
@@ -203,41 +205,40 @@ fn lengths() -> u64 {
     good
 }
 
-fn line(text: &[u8], index: usize, n: u64) {
-    show::say(b"h, byte ");
-    show::number(index as u64);
-    show::say(text);
-    show::say(b": expected 256 of 256, came ");
-    show::number(n);
-    show::say(b" of 256");
-    show::end();
+// A row of the readings of case h with one byte replaced.
+fn row(out: &mut [u8], index: usize, how: &[u8], n: u64) {
+    let a = put_text(out, 0, b"h, byte ");
+    let b = put_number(out, a, index as u64);
+    let c = put_text(out, b, how);
+    let d = put_text(out, c, b": expected 256 of 256, came ");
+    let e = show::of(out, d, n, b"256");
+    show::end(out, e);
 }
 
-fn replaced_line(index: usize, n: u64) {
-    line(b" replaced", index, n);
+fn replaced_row(out: &mut [u8], index: usize) {
+    row(out, index, b" replaced", all(index, false));
 }
 
-fn right_line(index: usize, n: u64) {
-    line(b" replaced, sum made right", index, n);
+fn right_row(out: &mut [u8], index: usize) {
+    row(out, index, b" replaced, sum made right", all(index, true));
 }
 
-fn as_it_was() {
+fn as_it_was(out: &mut [u8]) {
     for index in 0..23usize {
-        replaced_line(index, all(index, false));
+        replaced_row(out, index);
     }
 }
 
-fn made_right() {
+fn made_right(out: &mut [u8]) {
     for index in 3..20usize {
-        right_line(index, all(index, true));
+        right_row(out, index);
     }
 }
 
-pub(crate) fn run() {
-    as_it_was();
-    made_right();
-    show::case(b"lengths 0 to 4095", b"4096 of 4096");
-    show::number(lengths());
-    show::say(b" of 4096");
-    show::end();
+pub(crate) fn run(out: &mut [u8]) {
+    as_it_was(out);
+    made_right(out);
+    let a = show::case(out, b"lengths 0 to 4095", b"4096 of 4096");
+    let b = show::of(out, a, lengths(), b"4096");
+    show::end(out, b);
 }

@@ -1,10 +1,11 @@
-// Runs the cases of 01 'Bench cases', a line of standard input each, and damaged telegrams: what the paper says, and what came.
+// Runs the cases of 01 'Bench cases', a row of standard input each, and damaged telegrams: what the paper says, and what came.
 mod damage;
-mod fields;
 mod show;
 mod vectors;
 
 fn main() {
-    vectors::run();
-    damage::run();
+    let mut input = io::large_buffer();
+    let mut out = show::row();
+    vectors::run(&mut input, &mut out);
+    damage::run(&mut out);
 }

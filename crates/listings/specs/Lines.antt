@@ -10,22 +10,23 @@ use Rattle.records.specs.Records.{typeOf}
 use Rattle.reading.specs.Answers.{Answer, accepted, refused, written}
 use Rattle.reading.specs.Frame.{lf}
 use Rattle.writing.specs.Writing.{Write}
-use Rattle.listings.specs.Numbers.{decimalText}
-
--- the end of a line
-abbrev pub lastText : ℕ → List ℕ
-lastText n = codes " " ++ (decimalText n ++ (lf ∷ []))
+use Rattle.text.specs.Numbers.{decimalText}
+use Rattle.text.specs.Items.{refusalText}
 
 -- `ok`, type, number, or `no`, refusal, place; the type is printed as its byte
 abbrev pub answerText : Answer → List ℕ
-answerText (accepted rec number) = codes " ok " ++ ((typeOf rec ∷ []) ++ lastText number)
-answerText (refused x) = codes " no " ++ (decimalText (x .number) ++ lastText (x .place))
+answerText (accepted rec number) = codes " ok " ++ ((typeOf rec ∷ []) ++ (codes " " ++ (decimalText number ++ (lf ∷ []))))
+answerText (refused x) = codes " " ++ (refusalText x ++ (lf ∷ []))
 
 -- ordinal, offset and what the telegram reads as
 unfoldable pub lineText : ℕ → ℕ → Answer → List ℕ
 lineText ordinal offset answer = decimalText ordinal ++ (codes " " ++ (decimalText offset ++ answerText answer))
 
--- room for any line: four numbers of at most 20 digits, and 7 other bytes
+-- room for what any telegram reads as: two numbers of at most 20 digits, and 6 other bytes
+abbrev pub answerRoom : ℕ
+answerRoom = 46
+
+-- room for any line: two such numbers more, and the space between them
 abbrev pub lineRoom : ℕ
 lineRoom = 87
 

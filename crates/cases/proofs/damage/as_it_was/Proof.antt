@@ -1,23 +1,23 @@
--- `cases::damage::as_it_was` meets its contract. Assumes nothing.
-use borrow.Author.Needs.{needs}
+-- `as_it_was` goes from byte to byte. Assumes nothing.
+use mathlib.Core.Path.{_≡_, refl}
 use Prim.Native.Nat.{_≤_, _-_}
+use native.Mathlib.Omega.{arith}
+use lib.ListN.{length}
+use borrow.Author.Needs.{needs}
 use Rattle.cases.proofs.damage.as_it_was.Statement.{statement}
 use Rattle.cases.proofs.damage.as_it_was.Tie as tie
 
 abbrev Inv-loop : tie.InvT-loop
-Inv-loop index₀ index = index ≤ 23
+Inv-loop out₀ index₀ out index = (index ≤ 23) × (length out ≡ length out₀)
 
 abbrev μ-loop : tie.MeasureT-loop
-μ-loop index₀ index = 23 - index
+μ-loop out₀ index₀ out index = 23 - index
 
 loop-holds : tie.Need-loop-holds Inv-loop μ-loop
-loop-holds c = search needs
+loop-holds c = (omega arith, refl)
 
-all-requires : tie.Need-all-requires Inv-loop μ-loop
-all-requires c κs = search needs
-
-replaced-line-requires : tie.Need-replaced-line-requires Inv-loop μ-loop
-replaced-line-requires c κs = search needs
+replaced-row-requires : tie.Need-replaced-row-requires Inv-loop μ-loop
+replaced-row-requires c κs = search needs
 
 add-index : tie.Need-add-index Inv-loop μ-loop
 add-index c = search needs
@@ -27,6 +27,9 @@ loop-less c = search needs
 
 loop-again : tie.Need-loop-again Inv-loop μ-loop
 loop-again c = search needs
+
+same-length : tie.Need-same-length Inv-loop μ-loop
+same-length c = search needs
 
 returns : tie.Need-returns Inv-loop μ-loop
 returns c = search needs
@@ -38,9 +41,9 @@ as-it-was-spec =
     Inv-loop
     μ-loop
     loop-holds
-    all-requires
-    replaced-line-requires
+    replaced-row-requires
     add-index
     loop-less
     loop-again
+    same-length
     returns)

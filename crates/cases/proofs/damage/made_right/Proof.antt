@@ -1,23 +1,23 @@
--- `cases::damage::made_right` meets its contract. Assumes nothing.
-use borrow.Author.Needs.{needs}
+-- `made_right` goes from byte to byte. Assumes nothing.
+use mathlib.Core.Path.{_≡_, refl}
 use Prim.Native.Nat.{_≤_, _-_}
+use native.Mathlib.Omega.{arith}
+use lib.ListN.{length}
+use borrow.Author.Needs.{needs}
 use Rattle.cases.proofs.damage.made_right.Statement.{statement}
 use Rattle.cases.proofs.damage.made_right.Tie as tie
 
 abbrev Inv-loop : tie.InvT-loop
-Inv-loop index₀ index = index ≤ 20
+Inv-loop out₀ index₀ out index = (index ≤ 20) × (length out ≡ length out₀)
 
 abbrev μ-loop : tie.MeasureT-loop
-μ-loop index₀ index = 20 - index
+μ-loop out₀ index₀ out index = 20 - index
 
 loop-holds : tie.Need-loop-holds Inv-loop μ-loop
-loop-holds c = search needs
+loop-holds c = (omega arith, refl)
 
-all-requires : tie.Need-all-requires Inv-loop μ-loop
-all-requires c κs = search needs
-
-right-line-requires : tie.Need-right-line-requires Inv-loop μ-loop
-right-line-requires c κs = search needs
+right-row-requires : tie.Need-right-row-requires Inv-loop μ-loop
+right-row-requires c κs = search needs
 
 add-index : tie.Need-add-index Inv-loop μ-loop
 add-index c = search needs
@@ -27,6 +27,9 @@ loop-less c = search needs
 
 loop-again : tie.Need-loop-again Inv-loop μ-loop
 loop-again c = search needs
+
+same-length : tie.Need-same-length Inv-loop μ-loop
+same-length c = search needs
 
 returns : tie.Need-returns Inv-loop μ-loop
 returns c = search needs
@@ -38,9 +41,9 @@ made-right-spec =
     Inv-loop
     μ-loop
     loop-holds
-    all-requires
-    right-line-requires
+    right-row-requires
     add-index
     loop-less
     loop-again
+    same-length
     returns)

@@ -1,26 +1,35 @@
--- `cases::vectors::all` meets its contract. Assumes nothing.
-use borrow.Author.Needs.{needs}
+-- `all` goes from row to row. Assumes nothing.
+use mathlib.Core.Path.{_≡_, refl}
 use Prim.Native.Nat.{_≤_, _-_}
+use native.Mathlib.Omega.{arith}
+use lib.ListN.{length}
+use borrow.Author.Needs.{needs}
 use Rattle.cases.proofs.vectors.all.Statement.{statement}
 use Rattle.cases.proofs.vectors.all.Tie as tie
 
 abbrev Inv-loop : tie.InvT-loop
-Inv-loop text k₀ k = k ≤ 1000
+Inv-loop text out₀ k₀ out k = (k ≤ 1000) × (length out ≡ length out₀)
 
 abbrev μ-loop : tie.MeasureT-loop
-μ-loop text k₀ k = 1000 - k
+μ-loop text out₀ k₀ out k = 1000 - k
 
 loop-holds : tie.Need-loop-holds Inv-loop μ-loop
-loop-holds c = search needs
+loop-holds c = (omega arith, refl)
 
 field-requires : tie.Need-field-requires Inv-loop μ-loop
 field-requires c κs = search needs
+
+same-length : tie.Need-same-length Inv-loop μ-loop
+same-length c = search needs
 
 returns : tie.Need-returns Inv-loop μ-loop
 returns c = search needs
 
 one-requires : tie.Need-one-requires Inv-loop μ-loop
 one-requires c κs = search needs
+
+end-requires : tie.Need-end-requires Inv-loop μ-loop
+end-requires c κs = search needs
 
 add-k : tie.Need-add-k Inv-loop μ-loop
 add-k c = search needs
@@ -30,6 +39,9 @@ loop-less c = search needs
 
 loop-again : tie.Need-loop-again Inv-loop μ-loop
 loop-again c = search needs
+
+same-length-2 : tie.Need-same-length-2 Inv-loop μ-loop
+same-length-2 c = search needs
 
 returns-2 : tie.Need-returns-2 Inv-loop μ-loop
 returns-2 c = search needs
@@ -42,9 +54,12 @@ all-spec =
     μ-loop
     loop-holds
     field-requires
+    same-length
     returns
     one-requires
+    end-requires
     add-k
     loop-less
     loop-again
+    same-length-2
     returns-2)

@@ -1,6 +1,7 @@
--- `cases::vectors::writes` meets its contract. Assumes nothing.
-use lib.Seq.{length-take-le}
+-- `writes` lends a telegram of at most 64 bytes. Assumes nothing.
 use mathlib.Core.Path.{sym}
+use native.Mathlib.Omega.{arith}
+use lib.Seq.{length-take-le}
 use borrow.Author.Needs.{needs}
 use Rattle.cases.proofs.vectors.writes.Statement.{statement}
 use Rattle.cases.proofs.vectors.writes.Tie as tie
@@ -14,8 +15,8 @@ byte-at-requires c κs = search needs
 field-requires-2 : tie.Need-field-requires-2
 field-requires-2 c κs = search needs
 
-values-requires : tie.Need-values-requires
-values-requires c κs = search needs
+word-values-requires : tie.Need-word-values-requires
+word-values-requires c κs = search needs
 
 record-of-requires : tie.Need-record-of-requires
 record-of-requires c κs = search needs
@@ -23,11 +24,8 @@ record-of-requires c κs = search needs
 field-requires-3 : tie.Need-field-requires-3
 field-requires-3 c κs = search needs
 
-decimal-requires : tie.Need-decimal-requires
-decimal-requires c κs = search needs
-
-cast-room : tie.Need-cast-room
-cast-room c = search needs
+room-requires : tie.Need-room-requires
+room-requires c κs = search needs
 
 field-requires-4 : tie.Need-field-requires-4
 field-requires-4 c κs = search needs
@@ -38,11 +36,17 @@ field-requires-5 c κs = search needs
 case-requires : tie.Need-case-requires
 case-requires c κs = search needs
 
-array-borrow-prefix-out : tie.Need-array-borrow-prefix-out
-array-borrow-prefix-out c = search needs
+same-length : tie.Need-same-length
+same-length c = search needs
+
+returns : tie.Need-returns
+returns c = search needs
+
+array-borrow-prefix-telegram : tie.Need-array-borrow-prefix-telegram
+array-borrow-prefix-telegram c = search needs
 
 slice-aggregate-write-into : tie.Need-slice-aggregate-write-into
-slice-aggregate-write-into c = sym (length-take-le (c .before .before .before .before .before .decimal .result) _ (c .before .if1 .taken))
+slice-aggregate-write-into c = sym (length-take-le _ _ (omega arith))
 
 field-requires-6 : tie.Need-field-requires-6
 field-requires-6 c κs = search needs
@@ -59,8 +63,8 @@ byte-requires-2 c κs = search needs
 write-into-requires : tie.Need-write-into-requires
 write-into-requires c κs = search needs
 
-returns : tie.Need-returns
-returns c = search needs
+same-length-2 : tie.Need-same-length-2
+same-length-2 c = search needs
 
 returns-2 : tie.Need-returns-2
 returns-2 c = search needs
@@ -72,20 +76,21 @@ writes-spec =
     field-requires
     byte-at-requires
     field-requires-2
-    values-requires
+    word-values-requires
     record-of-requires
     field-requires-3
-    decimal-requires
-    cast-room
+    room-requires
     field-requires-4
     field-requires-5
     case-requires
-    array-borrow-prefix-out
+    same-length
+    returns
+    array-borrow-prefix-telegram
     slice-aggregate-write-into
     field-requires-6
     byte-requires
     field-requires-7
     byte-requires-2
     write-into-requires
-    returns
+    same-length-2
     returns-2)

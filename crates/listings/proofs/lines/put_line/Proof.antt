@@ -3,13 +3,14 @@ use native.Mathlib.Omega.{arith}
 use denote.Ref.{now}
 use Rattle.reading.specs.Answers.{answerOf}
 use Rattle.listings.specs.Lines.{lineText}
-use Rattle.listings.proofs.Puts.{then, no-room, whole}
+use Rattle.text.proofs.Puts.{then}
+use Rattle.listings.proofs.Puts.{no-line, whole}
 use borrow.Author.Needs.{needs}
 use Rattle.listings.proofs.lines.put_line.Statement.{statement}
 use Rattle.listings.proofs.lines.put_line.Tie as tie
 
 returns : tie.Need-returns
-returns c = no-room _ _ (c .if1 .taken)
+returns c = no-line _ _ (c .if1 .taken)
 
 put-number-requires : tie.Need-put-number-requires
 put-number-requires c κs = search needs
@@ -29,11 +30,13 @@ same-length c = search needs
 returns-2 : tie.Need-returns-2
 unfolding lineText
 returns-2 c =
-    let a = c .before .before .before .before .before .before .before .before .before .before .before .before .before .before .before .before .before .before .args in
-    whole (a .ordinal) (a .offset) (answerOf (a .reading)) (now (a .out)) _ _ (omega arith)
-    (then _ _ _ _ _ _ _ _ (omega arith) (c .before .before .before .before .before .before .before .before .before .before .before .before .before .before .put-number .ensures .0)
-    (then _ _ _ _ _ _ _ _ (omega arith) (c .before .before .before .before .before .before .before .before .before .before .put-byte .ensures .0)
-    (then _ _ _ _ _ _ _ _ (omega arith) (c .before .before .before .before .before .before .put-number2 .ensures .0) (c .before .before .put-answer .ensures))))
+    let d = c .before .before .put-answer in
+    let o = c .before .before .before .before .before .before in
+    let b = o .before .before .before .before in
+    let n = b .before .before .before .before in
+    let a = n .before .before .before .before .args in
+    whole (a .ordinal) (a .offset) (answerOf (a .reading)) (now (a .out)) _ _ (omega arith) (omega arith) (omega arith) (d .ensures .1)
+    (then _ _ _ _ _ _ _ _ (n .put-number .ensures) (then _ _ _ _ _ _ _ _ (b .put-byte .ensures) (then _ _ _ _ _ _ _ _ (o .put-number2 .ensures) (d .ensures .0))))
 
 pub put-line-spec : {M : Type 1} → statement M
 put-line-spec =

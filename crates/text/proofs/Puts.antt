@@ -1,0 +1,64 @@
+-- Texts put into an output one behind the other. Assumes nothing.
+use mathlib.Core.Path.{_≡_, refl, sym, ap, ap₂, _∙_}
+use mathlib.Core.Bool.{false}
+use mathlib.Core.List.{List, [], _∷_, _++_, append-assoc}
+use Prim.Native.Nat.{ℕ, suc, _+_, _-_, _≤_, _<_}
+use native.Mathlib.Omega.{arith}
+use native.Mathlib.Numerals.{add-one}
+use native.Mathlib.Nat.{add-zero, add-suc, suc-add}
+use lib.Dec.{ltb}
+use lib.ListN.{length, take, drop, set, getD, length-set, take-append-drop}
+use lib.Seq.{drop-cons, take-suc-set, drop-set-lt}
+use borrow.Author.Tests.{lt-ltb, le-ltb}
+use Rattle.laws.proofs.Passes.{on-test, order}
+use Rattle.text.specs.Putting.{puts, placed}
+
+-- nothing is put into an output that is full
+pub full : (t : List ℕ) (at : ℕ) (out : List ℕ) → length out ≤ at → puts t at out ≡ (at, out)
+unfolding puts
+full [] at out h = refl
+full (b ∷ t) at out h = rw (le-ltb at (length out) h)
+
+-- one text, and another at the place behind it, are both as one text
+joined : (t u : List ℕ) (at : ℕ) (out : List ℕ) → puts u (puts t at out .0) (puts t at out .1) ≡ puts (t ++ u) at out
+unfolding puts
+joined [] u at out = refl
+joined (b ∷ t) u at out =
+    order at (length out)
+    (λ l. rw (lt-ltb at (length out) l) (joined t u (suc at) (set out at b)))
+    (λ m. rw (le-ltb at (length out) m) (full u at out m))
+
+pub onward : (t u : List ℕ) (at : ℕ) (out : List ℕ) (a : ℕ) (o : List ℕ) → (a, o) ≡ puts t at out → puts u a o ≡ puts (t ++ u) at out
+onward t u at out a o h = ap (λ (y : ℕ × List ℕ). puts u (y .0) (y .1)) h ∙ joined t u at out
+
+pub then : (t u : List ℕ) (at : ℕ) (out : List ℕ) (a r : ℕ) (o x : List ℕ) → (a, o) ≡ puts t at out → (r, x) ≡ puts u a o → (r, x) ≡ puts (t ++ u) at out
+then t u at out a r o x h g = g ∙ onward t u at out a o h
+
+-- a byte
+pub one : (out : List ℕ) (at byte : ℕ) → at < length out → (at + 1, set out at byte) ≡ puts (byte ∷ []) at out
+unfolding puts
+one out at byte h = rw (lt-ltb at (length out) h, add-one at)
+
+-- the next byte of what is left of a text, and then the rest
+pub byte-on : (left rest : List ℕ) (b at : ℕ) (out : List ℕ) (a : ℕ) (o : List ℕ) → left ≡ b ∷ rest → (a, o) ≡ puts (b ∷ []) at out → puts rest a o ≡ puts left at out
+byte-on left rest b at out a o e h = onward (b ∷ []) rest at out a o h ∙ ap (λ (t : List ℕ). puts t at out) (sym e)
+
+-- what is left of a text from a place on
+pub from-here : (s : List ℕ) (i b : ℕ) → i < length s → b ≡ getD s i 0 → drop i s ≡ b ∷ drop (i + 1) s
+from-here s i b l e = rw (add-one i, e) (drop-cons s i 0 l)
+
+-- where all of a text has room
+pub with-room : (t : List ℕ) (at : ℕ) (out : List ℕ) → at + length t ≤ length out → puts t at out ≡ placed t at out
+unfolding puts placed
+with-room [] at out h = rw (add-zero at, take-append-drop at out)
+with-room (b ∷ t) at out h =
+    let l : at < length out = omega arith in
+    let r : suc at + length t ≤ length (set out at b) = rw length-set (omega arith) in
+    rw (lt-ltb at (length out) l)
+    (with-room t (suc at) (set out at b) r
+    ∙ rw (suc-add at (length t), ← (add-suc at (length t)), take-suc-set out at b l, drop-set-lt (at + suc (length t)) out at b (omega arith), append-assoc))
+
+-- nothing is left of a text
+pub put-all : (left text : List ℕ) (at : ℕ) (out : List ℕ) (a : ℕ) (o : List ℕ) → left ≡ [] → puts left a o ≡ puts text at out → (a, o) ≡ puts text at out
+unfolding puts
+put-all left text at out a o e h = rw e at h

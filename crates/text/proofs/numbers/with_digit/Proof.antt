@@ -1,0 +1,44 @@
+-- `with_digit` is ten times the number by doubling, and the digit. Assumes nothing.
+use mathlib.Core.Path.{ap, _∙_}
+use Prim.Native.Nat.{ℕ, _+_, _%_, _^_}
+use Rattle.text.proofs.Parsed.{tenfold}
+use borrow.Author.Needs.{needs}
+use Rattle.text.proofs.numbers.with_digit.Statement.{statement}
+use Rattle.text.proofs.numbers.with_digit.Tie as tie
+
+wrapping-add-u64-requires : tie.Need-wrapping-add-u64-requires
+wrapping-add-u64-requires c κs = search needs
+
+wrapping-add-u64-requires-2 : tie.Need-wrapping-add-u64-requires-2
+wrapping-add-u64-requires-2 c κs = search needs
+
+wrapping-add-u64-requires-3 : tie.Need-wrapping-add-u64-requires-3
+wrapping-add-u64-requires-3 c κs = search needs
+
+wrapping-add-u64-requires-4 : tie.Need-wrapping-add-u64-requires-4
+wrapping-add-u64-requires-4 c κs = search needs
+
+digit-value-requires : tie.Need-digit-value-requires
+digit-value-requires c κs = search needs
+
+wrapping-add-u64-requires-5 : tie.Need-wrapping-add-u64-requires-5
+wrapping-add-u64-requires-5 c κs = search needs
+
+returns : tie.Need-returns
+returns c =
+    let d = c .before .digit-value in
+    let w = c .before .before in
+    tenfold (2 ^ 64) _ _ _ _ _ _ _ (w .before .before .before .wrapping-add-u64 .ensures) (w .before .before .wrapping-add-u642 .ensures) (w .before .wrapping-add-u643 .ensures)
+    (w .wrapping-add-u644 .ensures) (c .wrapping-add-u645 .ensures ∙ ap (λ (k : ℕ). (w .wrapping-add-u644 .result + k) % 2 ^ 64) (d .ensures))
+
+pub with-digit-spec : {M : Type 1} → statement M
+with-digit-spec =
+    tie.close
+    (tie.spec
+    wrapping-add-u64-requires
+    wrapping-add-u64-requires-2
+    wrapping-add-u64-requires-3
+    wrapping-add-u64-requires-4
+    digit-value-requires
+    wrapping-add-u64-requires-5
+    returns)
