@@ -3,6 +3,7 @@ use mathlib.Core.Path.{_≡_, refl, sym, _∙_, ap}
 use mathlib.Core.Bool.{Bool, true, false, cond}
 use mathlib.Core.List.{List, []}
 use Prim.Native.Nat.{ℕ, _<_}
+use Prim.Native.Char.{code}
 use lib.Dec.{T as So, eqb, leb, ltb}
 use lib.ListN.{length, take, drop, replicate}
 use lib.Seq.{take-append-seam}
@@ -13,20 +14,22 @@ use Rattle.records.specs.Records.{typeOf}
 use Rattle.records.specs.declared.records.Record.{Record}
 use Rattle.records.specs.declared.records.Record.the-variants.{Rejected}
 use Rattle.values.specs.Values.{permitsRecord}
-use Rattle.reading.specs.Answers.{Fault, good, fault}
-use Rattle.writing.specs.Writing.{telegramOf}
+use Rattle.reading.specs.Answers.{Fault, good, fails}
+use Rattle.writing.specs.Writing.{telegramOf, sentOf}
 use Rattle.roundtrips.proofs.Trips.{written-reads}
-use Rattle.master.specs.Rules.{isFailure}
+use Rattle.clock.specs.Room.{longest}
+use Rattle.deciding.specs.Deciding.{What, Ruling, silent, fault, repeat, handle, answersWith}
+use Rattle.deciding.proofs.Numbers.{ruling-number}
+use Rattle.replying.proofs.Permitted.{fault-permitted}
+use Rattle.judging.specs.Rules.{isFailure}
 use Rattle.conduct.proofs.Master.Calls.{rejects}
 use Rattle.desk.specs.Answers.{Done, done, lost}
-use Rattle.desk.specs.State.{inRanges, startOf}
+use Rattle.desk.specs.State.{inRanges, storedOf, startOf}
 use Rattle.desk.specs.Panel.{losesLine, notedOf, faultless, recordFault, keyFault, withQueued, tickOf, queueOf, setOf, keyOf}
-use Rattle.desk.specs.Rules.{What, Ruling, quiet, wrongSum, again, handles, rulingIn, numberIn}
-use Rattle.desk.specs.Replies.{replyOf}
-use Rattle.desk.specs.Hearing.{Hearing, sentOf, faultedOf, repeatedOf, handledOf, appliedOf, heardOf, hearOf}
+use Rattle.desk.specs.Queue.{replyTo}
+use Rattle.desk.specs.Hearing.{Hearing, faultedOf, repeatedOf, handledOf, appliedOf, ruling, heardOf, hearOf}
 use Rattle.desk.specs.declared.state.Desk.{Desk}
-use Rattle.desk.proofs.Numbers.{ruling-number}
-use Rattle.desk.proofs.Permitted.{fault-permitted, reply-permitted}
+use Rattle.desk.proofs.Permitted.{answer-permitted}
 use Rattle.conduct.proofs.Desk.Stored.{reply-sent}
 use Rattle.conduct.proofs.Desk.Kept as k
 use Rattle.demand3.specs.Ends.{Said}
@@ -38,7 +41,7 @@ use Rattle.demand3.proofs.MasterKeeps.{nak}
 
 -- what is seen of the desk
 abbrev pub dview : Desk → DView (List ℕ)
-dview d = view (d .good) (isOne (d .last .0)) (take (d .kept) (d .stored))
+dview d = view (d .good) (isOne (d .last .0)) (storedOf d)
 
 -- in its ranges, on the line of its start
 pub record Fine (line : ℕ) (d : Desk) : Type 0 where
@@ -97,15 +100,15 @@ module _ (line : ℕ) (d : Desk) (i : Fine line d) (at : ℕ) (bytes out : List 
   lined : isLine (d .line) ≡ true
   lined = k.fits d (i .fine) .lined
 
-  fault-rejects : (number : ℕ) → number < 2 → nak line (telegramOf line (Rejected 49) number) ≡ true
+  fault-rejects : (number : ℕ) → number < 2 → nak line (telegramOf line (Rejected (code "1")) number) ≡ true
   unfolding isFailure
   fault-rejects number n =
       let p = fault-permitted line (rw (i .lined) at lined) in
-      ap rejects (written-reads line (Rejected 49) number p n)
+      ap rejects (written-reads line (Rejected (code "1")) number p n)
 
   wrong-sum : (noting : Bool) (number : ℕ) → number < 2 → Heard (faultedOf d noting number out)
   unfolding faultedOf
-  wrong-sum noting number n = rw (sent-front (telegramOf (d .line) (Rejected 49) number) out, i .lined) (DHears.faults (fault-rejects number n))
+  wrong-sum noting number n = rw (sent-front (telegramOf (d .line) (Rejected (code "1")) number) out, i .lined) (DHears.faults (fault-rejects number n))
 
   -- a repeat, as it is seen
   repeats-seen : (g l : Bool) (a : List ℕ) (r : Reading) → g ≡ true → r ≡ frame l → DHears (nak line) (FromSlave line) bytes r (view g l a) (Said.says a) (view g l a)
@@ -114,16 +117,16 @@ module _ (line : ℕ) (d : Desk) (i : Fine line d) (at : ℕ) (bytes out : List 
   repeated : d .good ≡ true → read bytes ≡ frame (isOne (d .last .0)) → Heard (repeatedOf d out)
   unfolding repeatedOf
   repeated g e =
-      rw (sent-front (take (d .kept) (d .stored)) out) (repeats-seen (d .good) (isOne (d .last .0)) (take (d .kept) (d .stored)) (read bytes) g e)
+      rw (sent-front (storedOf d) out) (repeats-seen (d .good) (isOne (d .last .0)) (storedOf d) (read bytes) g e)
 
   handled : (noting : Bool) (number : ℕ) (what : What) → number < 2 → read bytes ≡ frame (isOne number) → (d .good ≡ true → eqb (d .last .0) number ≡ false)
-      → Heard (handledOf d noting at number (replyOf d what) out)
+      → Heard (handledOf d noting at number (replyTo d what) out)
   unfolding handledOf
   handled noting number what n e g =
-      let t = telegramOf (d .line) (replyOf d what .1) number in
+      let t = telegramOf (d .line) (replyTo d what .0) number in
       let l = ltb-true (d .last .0) 2 (k.fits d (i .fine) .numbered) in
-      let s = from-slave (d .line) line (i .lined) (replyOf d what .1) number (reply-permitted d what (i .fine .holds) (k.fits d (i .fine))) (reply-sent d (i .fine) what) n in
-      rw (sent-front t out, take-append-seam t (drop (length t) (replicate 66 0)), e)
+      let s = from-slave (d .line) line (i .lined) (replyTo d what .0) number (answer-permitted d (i .fine .holds) (k.fits d (i .fine)) what) (reply-sent d (i .fine) what) n in
+      rw (sent-front t out, take-append-seam t (drop (length t) (replicate longest 0)), e)
       (DHears.takes (λ q. differ-other number (d .last .0) n l (g (so-true (d .good) q))) s)
 
 -- a call of hearing: the first rule, and then what it hears
@@ -139,22 +142,22 @@ module _ (line : ℕ) (d : Desk) (i : Fine line d) (at : ℕ) (bytes out : List 
   noted-fine : Fine line noted
   noted-fine = keeps-fine i (k.noted-keeps d (i .fine) (losesLine d at))
 
-  applied : (r : Ruling) → Settled noted bytes r → numberIn r < 2 → Lawful line d bytes (appliedOf noted (losesLine d at) at r out)
+  applied : (r : Ruling) → Settled noted bytes r → answersWith r < 2 → Lawful line d bytes (appliedOf noted (losesLine d at) at r out)
   unfolding faultedOf repeatedOf handledOf
-  applied (quiet number place) s n = (dview noted, first-rule d at, DHears.mute)
-  applied (wrongSum number) s n = (dview noted, first-rule d at, wrong-sum line noted noted-fine at bytes out (losesLine d at) number n)
-  applied again s n =
+  applied (silent x) s n = (dview noted, first-rule d at, DHears.mute)
+  applied (fault x number) s n = (dview noted, first-rule d at, wrong-sum line noted noted-fine at bytes out (losesLine d at) number n)
+  applied (repeat number what) s n =
       let f = same-note (not-noted d (losesLine d at) (s .0)) (first-rule d at) in
       (dview noted, f, repeated line noted noted-fine at bytes out (s .0) (s .1))
-  applied (handles number what) s n = (dview noted, first-rule d at, handled line noted noted-fine at bytes out (losesLine d at) number what n (s .0) (s .1))
+  applied (handle number what) s n = (dview noted, first-rule d at, handled line noted noted-fine at bytes out (losesLine d at) number what n (s .0) (s .1))
 
   pub hear-lawful : Fine line (hearOf d at bytes out .0) × Lawful line d bytes (hearOf d at bytes out)
   unfolding hearOf heardOf
   hear-lawful = (
     keeps-fine i (k.hear-keeps d (i .fine) at bytes out),
     split (Lawful line d bytes) (inRanges d)
-        (λ _. split (Lawful line d bytes) (leb 66 (length out))
-        (λ _. applied (rulingIn noted bytes) (settled noted bytes) (ruling-number noted bytes))
+        (λ _. split (Lawful line d bytes) (leb longest (length out))
+        (λ _. applied (ruling noted bytes) (settled noted bytes) (ruling-number (noted .line) (noted .good) (noted .last .0) bytes))
         (λ _. (dview d, First.stays, DHears.mute)))
         (λ e. clash (sym e ∙ i .fine .ranged)),
   )
@@ -171,7 +174,7 @@ module _ (line : ℕ) (d : Desk) (i : Fine line d) where
   -- the panel changes nothing that is seen
   unseen : (f : Fault) (step : Desk × Done) → dview (step .0) ≡ dview d → dview (faultless f d step .0) ≡ dview d
   unseen good step e = e
-  unseen (fault number place) step e = refl
+  unseen (fails x) step e = refl
 
   queue-unseen : (b : Bool) (rec : Record) (told : Done) → dview (cond {A = Desk × Done} b (withQueued d rec, done) (d, told) .0) ≡ dview d
   queue-unseen true rec told = refl

@@ -5,6 +5,7 @@ use mathlib.Core.List.{List, []}
 use Prim.Native.Nat.{ℕ, _+_, _<_}
 use native.Mathlib.Omega.{arith}
 use lib.ListN.{take}
+use lib.Seq.{take-append-seam}
 use borrow.Author.Tests.{ne-eqb}
 use Rattle.laws.proofs.Truths.{both-left}
 use Rattle.forms.specs.Forms.{isLine, byMaster}
@@ -13,21 +14,20 @@ use Rattle.records.specs.declared.records.Record.{Record}
 use Rattle.values.specs.Values.{permitsRecord}
 use Rattle.reading.specs.Answers.{good}
 use Rattle.reading.specs.Reading.{readingOf}
-use Rattle.writing.specs.Writing.{telegramOf}
+use Rattle.writing.specs.Writing.{telegramOf, sentOf}
 use Rattle.roundtrips.proofs.Trips.{written-reads}
 use Rattle.master.specs.Answers.{Told}
 use Rattle.master.specs.State.{isFree, sendable, inRanges, withLine, startOf}
-use Rattle.master.specs.Sending.{Turn, putOf, sendingOf, offerOf, tickOf}
+use Rattle.master.specs.Sending.{Behind, sendingOf, offerOf, tickOf}
 use Rattle.master.specs.Hearing.{hearOf}
 use Rattle.master.specs.declared.state.Master.{Master}
 use Rattle.master.specs.declared.answers.Sending.{Sending}
 use Rattle.master.specs.declared.answers.Sending.the-variants.{Offered, Again, Poll}
-use Rattle.master.proofs.Ranges.{numbered, sends, sendable-permits}
-use Rattle.conduct.proofs.Master.Calls.{Call, offers, ticks, hears, outputOf, after, rejects, brings, Quiet, refused, idle, unheard, First, offered, polled, Ends, permitted, strange, Does, stays, begins, repeats, ends, givesUp, does}
+use Rattle.master.proofs.Ranges.{numbered, sendable-permits}
+use Rattle.conduct.proofs.Master.Calls.{Call, offers, ticks, hears, outputOf, after, rejects, brings, Quiet, barred, idle, unheard, First, offered, polled, Ends, permitted, strange, Does, stays, begins, repeats, ends, givesUp, does}
 use Rattle.conduct.proofs.Master.Kept.{keeps, start-ranged}
-use Rattle.conduct.proofs.Master.Same.{front}
 use Rattle.demand3.specs.Ends.{Did, nothing, got}
-use Rattle.demand3.specs.Ours.{didOf, turnOf, FromMaster}
+use Rattle.demand3.specs.Ours.{didOf, behindOf, FromMaster}
 use Rattle.demand3.specs.Rules.{MView, MActs, MHears, free, waits}
 use Rattle.demand3.proofs.Numbers.{isOne, changed-other, read, good-frame, written-good}
 
@@ -62,32 +62,32 @@ Hears (hears at frame out) = Unit {0}
 
 module _ (m : Master) (h : inRanges m ≡ true) where
   quiet : (heard : List ℕ) (told : Told) (out : List ℕ) → Quiet told → didOf heard told out ≡ nothing
-  quiet heard told out (refused n) = refl
+  quiet heard told out (barred n) = refl
   quiet heard told out idle = refl
   quiet heard told out unheard = refl
 
   -- what a sending puts on the line
-  sent-bytes : (sending : Sending) (g : Bool) (rec : Record) (count at : ℕ) (out : List ℕ) → sendable (m .line) rec ≡ true →
-      take (putOf (m .line) rec (m .number .0) out .0) (putOf (m .line) rec (m .number .0) out .1) ≡ telegramOf (m .line) rec (m .number .0)
-  unfolding sendingOf putOf
-  sent-bytes sending g rec count at out s = front sending (withLine m g) rec count at out (sendable-permits (m .line) rec s)
+  sent-bytes : (rec : Record) (out : List ℕ) →
+      take (sentOf (telegramOf (m .line) rec (m .number .0)) out .0) (sentOf (telegramOf (m .line) rec (m .number .0)) out .1) ≡ telegramOf (m .line) rec (m .number .0)
+  unfolding sentOf
+  sent-bytes rec out = take-append-seam (telegramOf (m .line) rec (m .number .0)) _
 
   resent-view : (g : Bool) (at : ℕ) (out : List ℕ) → mview (sendingOf Again (withLine m g) (m .rec) (m .count + 1) at out .0)
       ≡ waits (isOne (m .number .0)) (telegramOf (m .line) (m .rec) (m .number .0)) (m .count + 1)
   unfolding sendingOf
   resent-view g at out = let z : ¬ (m .count + 1 ≡ 0) = λ q. omega arith in rw (ne-eqb (m .count + 1) 0 z)
 
-  acted : (call : Call) (turn : Turn) → (Hears call → ⊥) → Does m call turn → MActs read (FromMaster (m .line)) (mview m) (didOf [] (turn .1 .0) (turn .1 .1)) (mview (turn .0))
+  acted : (call : Call) (turn : Behind) → (Hears call → ⊥) → Does m call turn → MActs read (FromMaster (m .line)) (mview m) (didOf [] (turn .1 .0) (turn .1 .1)) (mview (turn .0))
   unfolding sendingOf
   acted call turn n (stays told q) = rw (quiet [] told (outputOf call) q) MActs.rests
   acted call turn n (begins sending rec at offered f s r) =
-      rw (f, sent-bytes Offered (m .good) rec 1 at (outputOf call) s)
+      rw (f, sent-bytes rec (outputOf call))
       (MActs.sends (written-good (m .line) rec (m .number .0) (sendable-permits (m .line) rec s) (numbered m h)) (from-master (m .line) rec (m .number .0) s (numbered m h)))
   acted call turn n (begins sending rec at polled f s r) =
-      rw (f, sent-bytes Poll (m .good) rec 1 at (outputOf call) s)
+      rw (f, sent-bytes rec (outputOf call))
       (MActs.sends (written-good (m .line) rec (m .number .0) (sendable-permits (m .line) rec s) (numbered m h)) (from-master (m .line) rec (m .number .0) s (numbered m h)))
   acted call turn n (repeats g at f x r) =
-      rw (f, resent-view g at (outputOf call), sent-bytes Again g (m .rec) (m .count + 1) at (outputOf call) (sends m h f)) MActs.resends
+      rw (f, resent-view g at (outputOf call), sent-bytes (m .rec) (outputOf call)) MActs.resends
   acted call turn n (ends told e f (brings a b)) = absurd (n tt)
   acted call turn n (givesUp cause f c) = rw f MActs.gives
 
@@ -100,18 +100,18 @@ module _ (m : Master) (h : inRanges m ≡ true) where
   ended heard told out permitted = refl
   ended heard told out strange = refl
 
-  heard : (at : ℕ) (bytes out : List ℕ) (turn : Turn) → Does m (hears at bytes out) turn →
+  heard : (at : ℕ) (bytes out : List ℕ) (turn : Behind) → Does m (hears at bytes out) turn →
       MHears (nak (m .line)) bytes (read bytes) (mview m) (didOf bytes (turn .1 .0) (turn .1 .1)) (mview (turn .0))
   unfolding sendingOf
   heard at bytes out turn (stays told q) = rw (quiet bytes told out q) MHears.ignores
   heard at bytes out turn (begins sending rec t q f s r) = absurd (first-unheard q tt)
   heard at bytes out turn (repeats g t f x r) =
-      rw (f, resent-view g t out, sent-bytes Again g (m .rec) (m .count + 1) t out (sends m h f)) MHears.resends
+      rw (f, resent-view g t out, sent-bytes (m .rec) out) MHears.resends
   heard at bytes out turn (ends told e f (brings a b)) =
       rw (f, ended bytes told out e, good-frame bytes a, changed-other (m .number .0) (numbered m h)) (MHears.takes b)
   heard at bytes out turn (givesUp cause f c) = rw f MHears.gives
 
-  same-line : (call : Call) (turn : Turn) → Does m call turn → turn .0 .line ≡ m .line
+  same-line : (call : Call) (turn : Behind) → Does m call turn → turn .0 .line ≡ m .line
   unfolding sendingOf
   same-line call turn (stays told q) = refl
   same-line call turn (begins sending rec at q f s r) = refl
@@ -136,15 +136,15 @@ module _ (line : ℕ) (m : Master) (i : Fine line m) where
   acts-lawful call n = (stays-fine call, acts-on (m .line) line (i .lined) (acted m (i .ranged) call (after m call) n (does m (i .ranged) call)))
 
   pub offer-lawful : (at : ℕ) (rec : Record) (out : List ℕ) → Fine line (offerOf m at rec out .0) ×
-      MActs read (FromMaster line) (mview m) (turnOf [] (offerOf m at rec out) .did) (mview (offerOf m at rec out .0))
+      MActs read (FromMaster line) (mview m) (behindOf [] (offerOf m at rec out) .did) (mview (offerOf m at rec out .0))
   offer-lawful at rec out = acts-lawful (offers at rec out) (λ q. q)
 
   pub tick-lawful : (at : ℕ) (out : List ℕ) → Fine line (tickOf m at out .0) ×
-      MActs read (FromMaster line) (mview m) (turnOf [] (tickOf m at out) .did) (mview (tickOf m at out .0))
+      MActs read (FromMaster line) (mview m) (behindOf [] (tickOf m at out) .did) (mview (tickOf m at out .0))
   tick-lawful at out = acts-lawful (ticks at out) (λ q. q)
 
   pub hear-lawful : (at : ℕ) (bytes out : List ℕ) → Fine line (hearOf m at bytes out .0) ×
-      MHears (nak line) bytes (read bytes) (mview m) (turnOf bytes (hearOf m at bytes out) .did) (mview (hearOf m at bytes out .0))
+      MHears (nak line) bytes (read bytes) (mview m) (behindOf bytes (hearOf m at bytes out) .did) (mview (hearOf m at bytes out .0))
   hear-lawful at bytes out =
       (stays-fine (hears at bytes out), hears-on bytes (m .line) line (i .lined) (heard m (i .ranged) at bytes out (hearOf m at bytes out) (does m (i .ranged) (hears at bytes out))))
 

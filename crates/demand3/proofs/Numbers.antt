@@ -2,22 +2,21 @@
 use mathlib.Core.Path.{_≡_, refl, _∙_, ap}
 use mathlib.Core.Bool.{Bool, true, false, not}
 use mathlib.Core.List.{List}
-use Prim.Native.Nat.{ℕ, zero, suc, _-_, _<_}
-use Prim.Native.Char.{code}
+use Prim.Native.Nat.{ℕ, zero, suc, _<_}
 use native.Mathlib.Omega.{arith}
 use lib.Dec.{eqb}
 use lib.ListN.{getD}
 use borrow.Author.Tests.{eqb-false, ne-eqb}
 use Rattle.records.specs.declared.records.Record.{Record}
 use Rattle.values.specs.Values.{permitsRecord}
-use Rattle.reading.specs.Answers.{Fault, good, fault, firstFault}
+use Rattle.reading.specs.Answers.{Fault, good, fails, firstFault}
 use Rattle.reading.specs.Frame.{frameChecks}
 use Rattle.writing.specs.Writing.{telegramOf}
 use Rattle.roundtrips.proofs.Faults.{faultless-good}
 use Rattle.roundtrips.proofs.Frames.{framed-faultless}
 use Rattle.roundtrips.proofs.Written.{written-framed, written-number}
-use Rattle.clock.specs.Counters.{changedOf}
-use Rattle.demand3.specs.Ours.{isFault, refused}
+use Rattle.clock.specs.Counters.{changedOf, numberIn}
+use Rattle.demand3.specs.Ours.{isFault, isRefused}
 use Rattle.demand3.specs.Rules.{Reading, bad, frame}
 
 abbrev pub isOne : ℕ → Bool
@@ -38,20 +37,20 @@ differ-other (suc n) (suc l) p q e = let x = eqb-false (suc l) (suc n) e in absu
 
 -- by checks 1 to 7: refused, or a good frame with its number
 abbrev pub readIn : Fault → List ℕ → Reading
-readIn good bytes = frame (isOne (getD bytes 4 0 - code "0"))
-readIn (fault number place) bytes = bad
+readIn good bytes = frame (isOne (numberIn (getD bytes 4 0)))
+readIn (fails x) bytes = bad
 
 abbrev pub read : List ℕ → Reading
 read bytes = readIn (firstFault 1 (frameChecks bytes)) bytes
 
-pub refused-bad : (bytes : List ℕ) → refused bytes ≡ true → read bytes ≡ bad
+pub refused-bad : (bytes : List ℕ) → isRefused bytes ≡ true → read bytes ≡ bad
 refused-bad bytes h = go (firstFault 1 (frameChecks bytes)) h
   where
     go : (f : Fault) → isFault f ≡ true → readIn f bytes ≡ bad
-    go (fault number place) e = refl
+    go (fails x) e = refl
     go good e = let z : _≡_ {A = ℕ} 0 1 = cc in let y : ⊥ = omega arith in absurd y
 
-pub good-frame : (bytes : List ℕ) → firstFault 1 (frameChecks bytes) ≡ good → read bytes ≡ frame (isOne (getD bytes 4 0 - code "0"))
+pub good-frame : (bytes : List ℕ) → firstFault 1 (frameChecks bytes) ≡ good → read bytes ≡ frame (isOne (numberIn (getD bytes 4 0)))
 good-frame bytes h = rw h
 
 -- what is written is a good frame with its number

@@ -20,17 +20,19 @@ use Rattle.reading.specs.Frame.{lf, cr, countText, summedOf, fieldOf, frameOf, 
 use Rattle.reading.specs.Frame as f
 use Rattle.reading.specs.Field.{dataOf, outside, wrongLetter, badValue, valuesIn, misshapen, fieldChecks}
 use Rattle.reading.specs.Reading.{recordIn, checks, readingOf}
-use Rattle.writing.specs.Writing.{telegramOf}
+use Rattle.writing.specs.Writing.{telegramOf, sentOf}
 use Rattle.clock.specs.Clock.{runOut}
+use Rattle.clock.specs.Room.{longest}
+use Rattle.deciding.specs.Deciding as r
+use Rattle.replying.specs.Fitting as u
+use Rattle.replying.specs.Replying as q
+use Rattle.judging.specs.Rules.{pollOf, isFailure, answersTo, permittedAnswer}
+use Rattle.judging.specs.Judging.{answeredBy, judgeOf}
 use Rattle.master.specs.State.{sendable, inRanges, callFault, startOf}
-use Rattle.master.specs.Rules.{t0Limit, t2Limit, pollOf, isFailure, answersTo, permittedAnswer}
-use Rattle.master.specs.Sending.{putOf, sendingOf, failedOf, offerFault, offerOf, pollingOf, waitingOf, tickOf}
-use Rattle.master.specs.Hearing.{judgedOf, hearOf}
-use Rattle.master.specs.Hearing as mh
+use Rattle.master.specs.Sending.{t0Limit, sendingOf, failedOf, offerFault, offerOf, pollingOf, waitingOf, tickOf}
+use Rattle.master.specs.Hearing.{hearOf}
 use Rattle.desk.specs.State as s
 use Rattle.desk.specs.Panel as p
-use Rattle.desk.specs.Rules as r
-use Rattle.desk.specs.Replies as q
 use Rattle.desk.specs.Hearing as h
 use Rattle.demand3.specs.History.{Tel, Hist, sent, again, noted, handled, over, answered, gaveUp}
 use Rattle.demand3.specs.Demand.{NoLostInside, Promise, now}
@@ -41,7 +43,7 @@ use Rattle.demand3.proofs.Theorem.{demand3}
 
 -- 66 bytes of room
 abbrev room : List ℕ
-room = replicate 66 0
+room = replicate longest 0
 
 -- a telegram of this text between LF and CR
 abbrev telegram : String → List ℕ
@@ -155,7 +157,7 @@ lateAnswer = ours 2 .mhear (masterOf (run (start (ours 2) 0 []) keptLonger)) 207
 pub runs : (ran (ours 3) 0 [] usual ≡ usualHistory) × (ran (ours 2) 0 [] polled ≡ polledHistory) × (ran (ours 2) 0 [] stale ≡ staleHistory)
     × (ran (ours 2) 0 [] twice ≡ twiceHistory) × (ran (ours 2) 0 [] later ≡ laterHistory) × (ran (ours 2) 0 [] cramped ≡ crampedHistory)
     × (lateSending ≡ handles (telegram "08t0Bt3E") (telegram "08A0AAA5")) × (lateAnswer ≡ got (telegram "08A0AAA5") 1)
-unfolding numeralOn numberOn leftOf inSet total checksumOf checkText forms onLine lookIn formOf dataIn dataType slotsIn countOf slotsOf widthIn widthOf recordOf packetOf leadOf isDecimal permits permitsRecord textOf valueOf bodyOf permittedFrom permitted permitsValue permitsValues lengthOf countText summedOf fieldOf frameOf f.bodyOf frameChecks dataOf outside wrongLetter badValue valuesIn misshapen fieldChecks recordIn checks readingOf telegramOf runOut sendable inRanges callFault startOf t0Limit t2Limit pollOf isFailure answersTo permittedAnswer putOf sendingOf failedOf offerFault offerOf pollingOf waitingOf tickOf judgedOf mh.frameOf hearOf s.mayReply s.keyFits s.keptFits s.wantedFits s.numbersFit s.recordsFit s.inRanges s.startOf p.losesLine p.notedOf p.tickOf p.recordFault p.queueOf p.setOf p.keyFault p.keyOf r.repeats r.matterIn r.goodFrame r.badFrame r.rulingIn q.keyOn q.polledOf h.sentOf h.faultedOf h.repeatedOf h.handledOf h.heardOf h.hearOf
+unfolding numeralOn numberOn leftOf inSet total checksumOf checkText forms onLine lookIn formOf dataIn dataType slotsIn countOf slotsOf widthIn widthOf recordOf packetOf leadOf isDecimal permits permitsRecord textOf valueOf bodyOf permittedFrom permitted permitsValue permitsValues lengthOf countText summedOf fieldOf frameOf f.bodyOf frameChecks dataOf outside wrongLetter badValue valuesIn misshapen fieldChecks recordIn checks readingOf telegramOf runOut sendable inRanges callFault startOf t0Limit pollOf isFailure answersTo permittedAnswer answeredBy judgeOf sentOf sendingOf failedOf offerFault offerOf pollingOf waitingOf tickOf hearOf u.mayReply u.keyFits s.keptFits u.wantedFits s.numbersFit s.recordsFit s.inRanges s.startOf p.losesLine p.notedOf p.tickOf p.recordFault p.queueOf p.setOf p.keyFault p.keyOf r.repeats r.matterIn r.goodFrame r.badFrame r.rulingIn q.keyOn q.polledOf h.faultedOf h.repeatedOf h.handledOf h.heardOf h.hearOf
 runs = (refl, refl, refl, refl, refl, refl, refl, refl)
 
 -- The supposition holds of the first three, and so does the promise.

@@ -2,7 +2,7 @@
 use mathlib.Core.Path.{_≡_, refl, sym, _∙_, ap}
 use mathlib.Core.Bool.{Bool, true, false}
 use mathlib.Core.List.{List}
-use Prim.Native.Nat.{ℕ, _-_}
+use Prim.Native.Nat.{ℕ}
 use native.Mathlib.Omega.{arith}
 use lib.Dec.{eqb}
 use lib.ListN.{getD}
@@ -11,29 +11,32 @@ use Rattle.laws.specs.Truth.{both, from}
 use Rattle.laws.proofs.Truths.{both-left, both-right}
 use Rattle.laws.proofs.Passes.{on-test, from-bounds}
 use Rattle.records.specs.declared.records.Record.{Record}
-use Rattle.reading.specs.Answers.{Answer, accepts, refuses, good}
+use Rattle.records.specs.Refusals.{No}
+use Rattle.reading.specs.Answers.{Answer, accepted}
+use Rattle.reading.specs.Answers as w
 use Rattle.reading.specs.Frame.{frameChecks}
 use Rattle.reading.specs.Reading.{readingOf}
 use Rattle.roundtrips.proofs.Faults.{faultless-good}
 use Rattle.roundtrips.proofs.Frames.{framed-faultless}
 use Rattle.roundtrips.proofs.Checks.{accepted-only}
-use Rattle.clock.specs.Counters.{sameNumber}
-use Rattle.desk.specs.Rules.{What, misread, Ruling, quiet, wrongSum, again, handles, isNumber, repeats, matterIn, goodFrame, badFrame, ruledBy, rulingIn}
+use Rattle.clock.specs.Counters.{sameNumber, isNumber, numberIn}
+use Rattle.deciding.specs.Deciding.{What, contents, Ruling, silent, fault, repeat, handle, repeats, matterIn, goodFrame, badFrame, ruledBy, rulingIn}
+use Rattle.deciding.proofs.Numbers.{good-checked}
+use Rattle.desk.specs.Hearing.{ruling}
 use Rattle.desk.specs.declared.state.Desk.{Desk}
-use Rattle.desk.proofs.Numbers.{good-checked}
 use Rattle.demand3.specs.Rules.{frame}
 use Rattle.demand3.proofs.Numbers.{isOne, read, good-frame}
 
 -- what a rule says of the state and of the bytes: a repeat is a good frame with the last number on a good line, and what is handled is a
 -- good frame with another number, or on a lost line
 abbrev pub Settled : Desk → List ℕ → Ruling → Type 0
-Settled d bytes (quiet number place) = Unit {0}
-Settled d bytes (wrongSum number) = Unit {0}
-Settled d bytes again = (d .good ≡ true) × (read bytes ≡ frame (isOne (d .last .0)))
-Settled d bytes (handles number what) = (read bytes ≡ frame (isOne number)) × (d .good ≡ true → eqb (d .last .0) number ≡ false)
+Settled d bytes (silent x) = Unit {0}
+Settled d bytes (fault x number) = Unit {0}
+Settled d bytes (repeat number what) = (d .good ≡ true) × (read bytes ≡ frame (isOne (d .last .0)))
+Settled d bytes (handle number what) = (read bytes ≡ frame (isOne number)) × (d .good ≡ true → eqb (d .last .0) number ≡ false)
 
 module _ (d : Desk) (bytes : List ℕ) where
-  same-or-not : (number : ℕ) (what : What) → read bytes ≡ frame (isOne number) → Settled d bytes (goodFrame d number what)
+  same-or-not : (number : ℕ) (what : What) → read bytes ≡ frame (isOne number) → Settled d bytes (goodFrame (d .good) (d .last .0) number what)
   unfolding goodFrame repeats
   same-or-not number what h =
       on-test (both (d .good) (sameNumber (d .last .0) number))
@@ -45,24 +48,24 @@ module _ (d : Desk) (bytes : List ℕ) where
       other false true g e = sym g
       other false false g e = refl
 
-  accepted-frame : (rec : Record) (number : ℕ) → readingOf (d .line) bytes ≡ accepts rec number → read bytes ≡ frame (isOne number)
+  accepted-frame : (rec : Record) (number : ℕ) → readingOf (d .line) bytes ≡ accepted rec number → read bytes ≡ frame (isOne number)
   accepted-frame rec number h =
       let a = accepted-only (d .line) bytes rec number h in
       good-frame bytes (faultless-good 1 (frameChecks bytes) (framed-faultless bytes (a .framed))) ∙ ap (λ (n : ℕ). frame (isOne n)) (a .numbered)
 
-  refused-settled : (number place : ℕ) → readingOf (d .line) bytes ≡ refuses number place → Settled d bytes (badFrame d number place (getD bytes 4 0))
+  refused-settled : (x : No) → readingOf (d .line) bytes ≡ w.refused x → Settled d bytes (badFrame (d .good) (d .last .0) x (getD bytes 4 0))
   unfolding badFrame
-  refused-settled number place h =
-      on-test (eqb number 6)
+  refused-settled x h =
+      on-test (eqb (x .number) 6)
       (λ e. rw e (on-test (isNumber (getD bytes 4 0)) (λ g. rw g tt) (λ g. rw g tt)))
-      (λ e. rw e (on-test (from 8 11 number)
-      (λ g. let b = from-bounds 8 11 number g in rw g (same-or-not (getD bytes 4 0 - 48) (misread number place) (good-frame bytes (good-checked (d .line) bytes number place h (b .0) (omega arith)))))
+      (λ e. rw e (on-test (from 8 11 (x .number))
+      (λ g. let b = from-bounds 8 11 (x .number) g in rw g (same-or-not (numberIn (getD bytes 4 0)) (contents x) (good-frame bytes (good-checked (d .line) bytes x h (b .0) (omega arith)))))
       (λ g. rw g tt)))
 
-  pub settled : Settled d bytes (rulingIn d bytes)
+  pub settled : Settled d bytes (ruling d bytes)
   unfolding rulingIn
   settled = by (readingOf (d .line) bytes) refl
     where
-      by : (a : Answer) → readingOf (d .line) bytes ≡ a → Settled d bytes (ruledBy d (getD bytes 4 0) a)
-      by (accepts rec number) e = same-or-not number (matterIn (d .line) rec) (accepted-frame rec number e)
-      by (refuses number place) e = refused-settled number place e
+      by : (a : Answer) → readingOf (d .line) bytes ≡ a → Settled d bytes (ruledBy (d .line) (d .good) (d .last .0) (getD bytes 4 0) a)
+      by (accepted rec number) e = same-or-not number (matterIn (d .line) rec) (accepted-frame rec number e)
+      by (w.refused x) e = refused-settled x e

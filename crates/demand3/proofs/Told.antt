@@ -2,64 +2,95 @@
 use mathlib.Core.Path.{_≡_, refl}
 use mathlib.Core.Bool.{Bool, true, false, cond}
 use mathlib.Core.List.{List}
-use Prim.Native.Nat.{ℕ, _+_}
+use Prim.Native.Nat.{ℕ}
 use lib.Dec.{eqb}
 use lib.ListN.{length, getD}
 use Rattle.records.specs.Records.{typeOf}
-use Rattle.reading.specs.Answers.{Answer, accepts, Fault, firstFault}
+use Rattle.records.specs.declared.records.Record.{Record}
+use Rattle.reading.specs.Answers.{Answer, accepted, Fault, firstFault}
 use Rattle.reading.specs.Answers as w
 use Rattle.reading.specs.Frame.{frameChecks}
 use Rattle.reading.specs.Reading.{readingOf}
 use Rattle.clock.specs.Clock.{runOut}
-use Rattle.master.specs.Answers.{Told, refuses, nothing, sent, answered, otherKind, givenUp, ignored}
-use Rattle.master.specs.State.{isFree, callFault, withLine}
-use Rattle.master.specs.Rules.{t2Limit, isFailure, permittedAnswer}
-use Rattle.master.specs.Sending.{Turn, unlessRefused, sendingOf, failedOf}
-use Rattle.master.specs.Hearing.{unlessBad, judgedOf, takenOf, frameOf, hearOf}
+use Rattle.clock.specs.Counters.{sameNumber, numberIn}
+use Rattle.judging.specs.Rules.{isFailure, permittedAnswer}
+use Rattle.judging.specs.Judging.{Judged, answeredBy, takenOf, unlessBad, judgeOf}
+use Rattle.judging.specs.Judging as j
+use Rattle.master.specs.Answers.{Told, refused, nothing, sent, answered, otherKind, givenUp, ignored}
+use Rattle.master.specs.State.{isFree, callFault}
+use Rattle.master.specs.Sending.{Behind, t2Limit, unlessRefused, sendingOf, failedOf}
+use Rattle.master.specs.Hearing.{settledOf, judged, hearOf}
 use Rattle.master.specs.declared.state.Master.{Master}
 
 -- a report of an answer, permitted or of another kind, is the reading of these bytes
 abbrev pub Tells : ℕ → List ℕ → Told → Type 0
-Tells line bytes (refuses number place) = Unit {0}
+Tells line bytes (refused x) = Unit {0}
 Tells line bytes nothing = Unit {0}
 Tells line bytes (sent sending count n) = Unit {0}
-Tells line bytes (answered rec count) = (number : ℕ) × (readingOf line bytes ≡ accepts rec number)
+Tells line bytes (answered rec count) = (number : ℕ) × (readingOf line bytes ≡ accepted rec number)
 Tells line bytes (otherKind answer count) = readingOf line bytes ≡ answer
 Tells line bytes (givenUp cause count) = Unit {0}
 Tells line bytes (ignored why) = Unit {0}
 
 module _ (line : ℕ) (bytes : List ℕ) where
-  record Right (turn : Turn) : Type 0 where
+  record Right (turn : Behind) : Type 0 where
     told : Tells line bytes (turn .1 .0)
 
-  split : (b : Bool) {x y : Turn} → Right x → Right y → Right (cond b x y)
+  split : (b : Bool) {x y : Behind} → Right x → Right y → Right (cond b x y)
   split true p q = p
   split false p q = q
 
-  passed : (f : Fault) (m : Master) (out : List ℕ) {turn : Turn} → Right turn → Right (unlessRefused f m out turn)
+  passed : (f : Fault) (m : Master) (out : List ℕ) {turn : Behind} → Right turn → Right (unlessRefused f m out turn)
   passed w.good m out p = p
-  passed (w.fault number place) m out p = record { told = tt }
+  passed (w.fails x) m out p = record { told = tt }
 
-  unspoilt : (f : Fault) (m : Master) (out : List ℕ) {turn : Turn} → Right turn → Right (unlessBad f m out turn)
-  unspoilt w.good m out p = p
-  unspoilt (w.fault number place) m out p = record { told = tt }
+  -- a verdict's record or answer is the reading of these bytes
+  abbrev Reads : Judged → Type 0
+  Reads (j.refused x) = Unit {0}
+  Reads j.otherNumber = Unit {0}
+  Reads j.failed = Unit {0}
+  Reads (j.answered rec) = (number : ℕ) × (readingOf line bytes ≡ accepted rec number)
+  Reads (j.otherKind answer) = readingOf line bytes ≡ answer
 
-  taken : (m : Master) (at : ℕ) (answer : Answer) (out : List ℕ) → readingOf line bytes ≡ answer → Right (takenOf m at answer out)
-  unfolding judgedOf failedOf sendingOf
-  taken m at (w.refuses number place) out e = record { told = e }
-  taken m at (accepts rec number) out e =
-      split (isFailure rec) (split (eqb (m .count) 3) (record { told = tt }) (record { told = tt }))
-      (split (permittedAnswer (m .line) (typeOf (m .rec)) (typeOf rec)) (record { told = (number, e) }) (record { told = e }))
+  settled : (m : Master) (at : ℕ) (judged : Judged) (out : List ℕ) → Reads judged → Right (settledOf m at judged out)
+  unfolding failedOf sendingOf
+  settled m at (j.refused x) out e = record { told = tt }
+  settled m at j.otherNumber out e = record { told = tt }
+  settled m at j.failed out e = split (eqb (m .count) 3) (record { told = tt }) (record { told = tt })
+  settled m at (j.answered rec) out e = record { told = e }
+  settled m at (j.otherKind answer) out e = record { told = e }
+
+  -- what a frame is judged is what it reads as
+  record-reads : (kind : ℕ) (rec : Record) (number : ℕ) → readingOf line bytes ≡ accepted rec number → Reads (answeredBy line kind rec number)
+  unfolding answeredBy
+  record-reads kind rec number e = go (isFailure rec) (permittedAnswer line kind (typeOf rec))
+    where
+      go : (a b : Bool) → Reads (cond a j.failed (cond b (j.answered rec) (j.otherKind (accepted rec number))))
+      go true b = tt
+      go false true = (number, e)
+      go false false = e
+
+  answer-reads : (kind : ℕ) (answer : Answer) → readingOf line bytes ≡ answer → Reads (takenOf line kind answer)
+  answer-reads kind (accepted rec number) e = record-reads kind rec number e
+  answer-reads kind (w.refused x) e = e
+
+  frame-reads : (number kind : ℕ) → Reads (judgeOf line number kind bytes)
+  unfolding judgeOf
+  frame-reads number kind = go (firstFault 1 (frameChecks bytes)) (sameNumber number (numberIn (getD bytes 4 0)))
+    where
+      go : (f : Fault) (b : Bool) → Reads (unlessBad f (cond b (takenOf line kind (readingOf line bytes)) j.otherNumber))
+      go w.good true = answer-reads kind (readingOf line bytes) refl
+      go w.good false = tt
+      go (w.fails x) b = tt
 
 module _ (m : Master) (at : ℕ) (bytes out : List ℕ) where
   heard : Right (m .line) bytes (hearOf m at bytes out)
-  unfolding hearOf frameOf
+  unfolding hearOf
   heard =
       passed (m .line) bytes (callFault m (length out)) m out
       (split (m .line) bytes (isFree m) (record { told = tt })
-      (split (m .line) bytes (runOut at (m .t2) (t2Limit m)) (record { told = tt })
-      (unspoilt (m .line) bytes (firstFault 1 (frameChecks bytes)) m out
-      (split (m .line) bytes (eqb (getD bytes 4 0) (48 + m .number .0)) (taken (m .line) bytes (withLine m true) at (readingOf (m .line) bytes) out refl) (record { told = tt })))))
+      (split (m .line) bytes (runOut at (m .t2) t2Limit) (record { told = tt })
+      (settled (m .line) bytes m at (judged m bytes) out (frame-reads (m .line) bytes (m .number .0) (typeOf (m .rec))))))
 
   -- Whatever the master hears.
   pub tells : Tells (m .line) bytes (hearOf m at bytes out .1 .0)

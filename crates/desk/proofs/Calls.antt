@@ -5,17 +5,19 @@ use Prim.Native.Nat.{ℕ, _≤_, _<_}
 use lib.Dec.{eqb}
 use borrow.Author.Tests.{eq-eqb, ne-eqb, le-ltb, lt-ltb}
 use Rattle.forms.specs.Forms.{dataType}
+use Rattle.records.specs.Refusals.{No, no}
 use Rattle.records.specs.Records.{typeOf}
 use Rattle.records.specs.declared.records.Record.{Record}
 use Rattle.values.specs.Values.{permitsRecord}
-use Rattle.reading.specs.Answers.{good, fault}
-use Rattle.desk.specs.Answers.{done, lost, refuses}
-use Rattle.desk.specs.State.{isKey, inRanges}
+use Rattle.reading.specs.Answers.{good, fails}
+use Rattle.desk.specs.Answers.{done, lost, refused}
+use Rattle.replying.specs.Fitting.{isKey}
+use Rattle.desk.specs.State.{inRanges}
 use Rattle.desk.specs.Panel.{losesLine, notedOf, withQueued, withRequested, withKey, recordFault, keyFault, tickOf, queueOf, setOf, keyOf}
 use Rattle.desk.specs.declared.state.Desk.{Desk}
 
 module _ (d : Desk) (at : ℕ) where
-  pub tick-refused : inRanges d ≡ false → (d, refuses 15 0) ≡ tickOf d at
+  pub tick-refused : inRanges d ≡ false → (d, refused (no 15 0)) ≡ tickOf d at
   unfolding tickOf
   tick-refused h = rw h
 
@@ -29,19 +31,19 @@ module _ (d : Desk) (at : ℕ) where
 
 -- checks 15, 12 and 13 of a record
 module _ (d : Desk) (rec : Record) where
-  pub record-state : inRanges d ≡ false → fault 15 0 ≡ recordFault d rec
+  pub record-state : inRanges d ≡ false → fails (no 15 0) ≡ recordFault d rec
   unfolding recordFault
   record-state h = rw h
 
   module _ (h : inRanges d ≡ true) (t k : ℕ) (e : t ≡ typeOf rec) (f : k ≡ dataType (d .line)) where
-    pub record-type : (t ≡ k → ⊥) → fault 12 0 ≡ recordFault d rec
+    pub record-type : (t ≡ k → ⊥) → fails (no 12 0) ≡ recordFault d rec
     unfolding recordFault
     record-type g = rw (h, ne-eqb (typeOf rec) (dataType (d .line)) (λ q. g (e ∙ q ∙ sym f)))
 
     same : t ≡ k → eqb (typeOf rec) (dataType (d .line)) ≡ true
     same g = eq-eqb _ _ (sym e ∙ g ∙ f)
 
-    pub record-values : t ≡ k → permitsRecord (d .line) rec ≡ false → fault 13 0 ≡ recordFault d rec
+    pub record-values : t ≡ k → permitsRecord (d .line) rec ≡ false → fails (no 13 0) ≡ recordFault d rec
     unfolding recordFault
     record-values g p = rw (h, same g, p)
 
@@ -49,11 +51,11 @@ module _ (d : Desk) (rec : Record) where
     unfolding recordFault
     record-good g p = rw (h, same g, p)
 
-  pub queue-refused : (number place : ℕ) → fault number place ≡ recordFault d rec → (d, refuses number place) ≡ queueOf d rec
+  pub queue-refused : (x : No) → fails x ≡ recordFault d rec → (d, refused x) ≡ queueOf d rec
   unfolding queueOf
-  queue-refused number place h = rw (← h)
+  queue-refused x h = rw (← h)
 
-  pub queue-full : good ≡ recordFault d rec → 8 ≤ d .queued → (d, refuses 17 0) ≡ queueOf d rec
+  pub queue-full : good ≡ recordFault d rec → 8 ≤ d .queued → (d, refused (no 17 0)) ≡ queueOf d rec
   unfolding queueOf
   queue-full h k = rw (← h, le-ltb (d .queued) 8 k)
 
@@ -61,9 +63,9 @@ module _ (d : Desk) (rec : Record) where
   unfolding queueOf
   queue-done h k e g = rw (← h, lt-ltb (d .queued) 8 k, g)
 
-  pub set-refused : (number place : ℕ) → fault number place ≡ recordFault d rec → (d, refuses number place) ≡ setOf d rec
+  pub set-refused : (x : No) → fails x ≡ recordFault d rec → (d, refused x) ≡ setOf d rec
   unfolding setOf
-  set-refused number place h = rw (← h)
+  set-refused x h = rw (← h)
 
   pub set-done : good ≡ recordFault d rec → (e : Desk) → e ≡ withRequested d rec → (e, done) ≡ setOf d rec
   unfolding setOf
@@ -71,15 +73,15 @@ module _ (d : Desk) (rec : Record) where
 
 -- checks 15, 12 and 13 of a key position
 module _ (d : Desk) (key : ℕ) where
-  pub key-state : inRanges d ≡ false → fault 15 0 ≡ keyFault d key
+  pub key-state : inRanges d ≡ false → fails (no 15 0) ≡ keyFault d key
   unfolding keyFault
   key-state h = rw h
 
-  pub key-line : inRanges d ≡ true → (d .line ≡ 3 → ⊥) → fault 12 0 ≡ keyFault d key
+  pub key-line : inRanges d ≡ true → (d .line ≡ 3 → ⊥) → fails (no 12 0) ≡ keyFault d key
   unfolding keyFault
   key-line h k = rw (h, ne-eqb (d .line) 3 k)
 
-  pub key-value : inRanges d ≡ true → d .line ≡ 3 → isKey key ≡ false → fault 13 0 ≡ keyFault d key
+  pub key-value : inRanges d ≡ true → d .line ≡ 3 → isKey key ≡ false → fails (no 13 0) ≡ keyFault d key
   unfolding keyFault
   key-value h k p = rw (h, eq-eqb (d .line) 3 k, p)
 
@@ -87,9 +89,9 @@ module _ (d : Desk) (key : ℕ) where
   unfolding keyFault
   key-good h k p = rw (h, eq-eqb (d .line) 3 k, p)
 
-  pub key-refused : (number place : ℕ) → fault number place ≡ keyFault d key → (d, refuses number place) ≡ keyOf d key
+  pub key-refused : (x : No) → fails x ≡ keyFault d key → (d, refused x) ≡ keyOf d key
   unfolding keyOf
-  key-refused number place h = rw (← h)
+  key-refused x h = rw (← h)
 
   pub key-done : good ≡ keyFault d key → (e : Desk) → e ≡ withKey d key → (e, done) ≡ keyOf d key
   unfolding keyOf

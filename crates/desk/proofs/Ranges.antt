@@ -11,9 +11,11 @@ use Rattle.laws.proofs.Truths.{both-left, both-right, both-true}
 use Rattle.laws.proofs.Passes.{both-off, on-test, on-cond, from-bounds}
 use Rattle.forms.specs.Forms.{isLine}
 use Rattle.clock.specs.Counters.{inRange}
+use Rattle.clock.specs.Room.{shortest, longest}
 use Rattle.desk.specs.declared.state.Desk.{Desk}
 use Rattle.desk.specs.Panel.{notedOf}
-use Rattle.desk.specs.State.{slotFits, keyFits, keptFits, wantedFits, numbersFit, recordsFit, inRanges}
+use Rattle.replying.specs.Fitting.{keyFits, wantedFits}
+use Rattle.desk.specs.State.{waitingFits, keptFits, numbersFit, recordsFit, inRanges}
 
 pub bad-line : (d : Desk) → isLine (d .line) ≡ false → false ≡ numbersFit d
 unfolding numbersFit
@@ -39,7 +41,7 @@ pub bad-wanted : (d : Desk) → wantedFits (d .line) (d .requested) ≡ false �
 unfolding recordsFit
 bad-wanted d h = sym (both-off (keptFits (d .good) (d .kept)) _ (rw h))
 
-pub records-by-queue : (d : Desk) → keptFits (d .good) (d .kept) ≡ true → wantedFits (d .line) (d .requested) ≡ true → every (slotFits (d .line)) (take (d .queued) (d .queue)) ≡ recordsFit d
+pub records-by-queue : (d : Desk) → keptFits (d .good) (d .kept) ≡ true → wantedFits (d .line) (d .requested) ≡ true → every (waitingFits (d .line)) (take (d .queued) (d .queue)) ≡ recordsFit d
 unfolding recordsFit
 records-by-queue d h k = rw (h, k)
 
@@ -64,7 +66,7 @@ pub record Fits (d : Desk) : Type 0 where
   pub keyed : keyFits (d .line) (d .key) ≡ true
   pub stocked : keptFits (d .good) (d .kept) ≡ true
   pub wanted : wantedFits (d .line) (d .requested) ≡ true
-  pub waiting : every (slotFits (d .line)) (take (d .queued) (d .queue)) ≡ true
+  pub waiting : every (waitingFits (d .line)) (take (d .queued) (d .queue)) ≡ true
 
 pub ranges-parts : (d : Desk) → inRanges d ≡ true → Fits d
 unfolding inRanges numbersFit recordsFit
@@ -92,10 +94,10 @@ parts-ranges d f =
     (rw (f .stocked, f .wanted) (f .waiting))
 
 -- a stored answer has at most 66 bytes
-pub kept-most : (good : Bool) (kept : ℕ) → keptFits good kept ≡ true → kept ≤ 66
+pub kept-most : (good : Bool) (kept : ℕ) → keptFits good kept ≡ true → kept ≤ longest
 unfolding keptFits
 kept-most good kept h =
-    on-cond (eqb kept 0) (not good) (from 10 66 kept) h (λ e _. omega (arith, eqb-true kept 0 e)) (λ _ k. from-bounds 10 66 kept k .1)
+    on-cond (eqb kept 0) (not good) (from shortest longest kept) h (λ e _. omega (arith, eqb-true kept 0 e)) (λ _ k. from-bounds shortest longest kept k .1)
 
 -- a line noted lost keeps the ranges
 lost-fits : (good : Bool) (kept : ℕ) → keptFits good kept ≡ true → keptFits false kept ≡ true

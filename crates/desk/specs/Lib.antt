@@ -1,6 +1,5 @@
 pub mod Answers
 pub mod State
 pub mod Panel
-pub mod Rules
-pub mod Replies
+pub mod Queue
 pub mod Hearing

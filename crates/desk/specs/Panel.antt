@@ -10,11 +10,13 @@ use Rattle.records.specs.Records.{typeOf}
 use Rattle.records.specs.declared.records.Record.{Record}
 use Rattle.values.specs.Values.{permitsRecord}
 use Rattle.clock.specs.Clock.{runOut}
-use Rattle.reading.specs.Answers.{Fault, good, fault}
-use Rattle.desk.specs.Answers.{Done, done, lost, refuses}
-use Rattle.desk.specs.State.{isKey, inRanges}
-use Rattle.desk.specs.declared.state.Slot.{Slot}
-use Rattle.desk.specs.declared.state.Wanted.the-variants.{Is}
+use Rattle.reading.specs.Answers.{Fault, good, fails}
+use Rattle.records.specs.Refusals.{no}
+use Rattle.replying.specs.Fitting.{isKey}
+use Rattle.replying.specs.declared.replying.Wanted.the-variants.{Is}
+use Rattle.desk.specs.Answers.{Done, done, lost, refused}
+use Rattle.desk.specs.State.{inRanges}
+use Rattle.desk.specs.declared.state.Waiting.{Waiting}
 use Rattle.desk.specs.declared.state.Desk.{Desk}
 
 -- T1 is 28,000
@@ -26,7 +28,7 @@ abbrev pub withGood : Desk → Bool → Desk
 withGood d b = record { line = d .line; good = b; last = d .last; t1 = d .t1; kept = d .kept; stored = d .stored; requested = d .requested; queued = d .queued; queue = d .queue; key = d .key }
 
 -- with other places of the queue, and so many queued
-abbrev pub withQueue : Desk → List Slot → ℕ → Desk
+abbrev pub withQueue : Desk → List Waiting → ℕ → Desk
 withQueue d q n = record { line = d .line; good = d .good; last = d .last; t1 = d .t1; kept = d .kept; stored = d .stored; requested = d .requested; queued = n; queue = q; key = d .key }
 
 -- with a record behind those that are queued
@@ -51,7 +53,7 @@ notedOf d noted = cond noted (withGood d false) d
 
 -- 15 where the state is out of its ranges; else the first rule
 unfoldable pub tickOf : Desk → ℕ → Desk × Done
-tickOf d at = cond (inRanges d) (notedOf d (losesLine d at), cond (losesLine d at) lost done) (d, refuses 15 0)
+tickOf d at = cond (inRanges d) (notedOf d (losesLine d at), cond (losesLine d at) lost done) (d, refused (no 15 0))
 
 -- 15, then 12 for all but the slave's data type (B, 5 or K by line), then 13 for a value outside its range
 unfoldable pub recordFault : Desk → Record → Fault
@@ -59,18 +61,18 @@ recordFault d rec =
     cond (inRanges d)
     (cond (eqb (typeOf rec) (dataType (d .line)))
     (cond (permitsRecord (d .line) rec) good
-    (fault 13 0))
-    (fault 12 0))
-    (fault 15 0)
+    (fails (no 13 0)))
+    (fails (no 12 0)))
+    (fails (no 15 0))
 
 -- a call that a fault refuses changes nothing
 abbrev pub faultless : Fault → Desk → Desk × Done → Desk × Done
 faultless good d step = step
-faultless (fault number place) d step = (d, refuses number place)
+faultless (fails x) d step = (d, refused x)
 
 -- queueing checks 12, 13, 17: the queue holds 8
 unfoldable pub queueOf : Desk → Record → Desk × Done
-queueOf d rec = faultless (recordFault d rec) d (cond (ltb (d .queued) 8) (withQueued d rec, done) (d, refuses 17 0))
+queueOf d rec = faultless (recordFault d rec) d (cond (ltb (d .queued) 8) (withQueued d rec, done) (d, refused (no 17 0)))
 
 -- setting a requested record 12, 13; it replaces one that is set
 unfoldable pub setOf : Desk → Record → Desk × Done
@@ -82,9 +84,9 @@ keyFault d key =
     cond (inRanges d)
     (cond (eqb (d .line) 3)
     (cond (isKey key) good
-    (fault 13 0))
-    (fault 12 0))
-    (fault 15 0)
+    (fails (no 13 0)))
+    (fails (no 12 0)))
+    (fails (no 15 0))
 
 -- the panel may set the key position
 unfoldable pub keyOf : Desk → ℕ → Desk × Done

@@ -2,23 +2,21 @@
 ghost use mathlib.Core.Path.{_≡_};
 ghost use mathlib.Core.Bool.{true};
 ghost use Prim.Native.Nat.{_≤_, _<_};
-ghost use lib.ListN.{length, take};
-ghost use Rattle.records.specs.declared.records.Record.the-variants.{Rejected};
-ghost use Rattle.values.specs.Values.{permitsRecord};
-ghost use Rattle.writing.specs.Writing.{telegramOf};
+ghost use lib.ListN.{length};
+ghost use Rattle.clock.specs.Room.{longest};
+ghost use Rattle.deciding.specs.Deciding.{matterOf, rulingOf, answersWith};
 ghost use Rattle.desk.specs.State.{inRanges};
 ghost use Rattle.desk.specs.Answers.{toldOf};
-ghost use Rattle.desk.specs.Rules.{matterOf, rulingOf, numberIn};
-ghost use Rattle.desk.specs.Replies.{replyOf};
-ghost use Rattle.desk.specs.Hearing.{sentOf, withStored, marked, faultedOf, repeatedOf, handledOf, appliedOf};
+ghost use Rattle.desk.specs.Queue.{replyTo};
+ghost use Rattle.desk.specs.Hearing.{withStored, marked, restarted, faultedOf, repeatedOf, handledOf, appliedOf};
 use crate::answers::Heard;
-use crate::deciding::Matter;
-use crate::deciding::Rule;
 use crate::state::Desk;
 use clock::counters::LastTaken;
-use reading::answers::Writing;
+use clock::room::LONGEST;
+use deciding::deciding::Matter;
+use deciding::deciding::Rule;
 use records::records::Record;
-use writing::writing::write;
+use writing::sending::send;
 
 // The state behind a hearing, beside its answer.
 pub struct Hearing {
@@ -26,37 +24,33 @@ pub struct Hearing {
     pub answer: Heard,
 }
 
-// Writes a record's telegram; the number of its bytes.
-fn send(line: u8, rec: Record, number: u8, out: &mut [u8]) -> usize
-    requires { ⌜ (permitsRecord line rec ≡ true) × (number < 2) × (66 ≤ length (now out)) ⌝ }
-    ensures { λ r. ⌜ (r, now (out .exit)) ≡ sentOf (telegramOf line rec number) (now (out .entry)) ⌝ }
-{
-    let writing = write(line, rec, number, out);
-    match writing {
-        Writing::Written(n) => n,
-        Writing::Refused(_) => 0,
-    }
-}
-
 impl Desk {
-    // Line good, number kept as last taken, T1 restarts.
-    fn mark(self, number: u8, at: u32) -> Desk
-        ensures { λ r. ⌜ r ≡ marked self number at ⌝ }
+    // Line good, number kept as last taken.
+    fn mark(self, number: u8) -> Desk
+        ensures { λ r. ⌜ r ≡ marked self number ⌝ }
     {
         let last = LastTaken(number);
         let mut d = self;
         d.good = true;
         d.last = last;
+        d
+    }
+
+    // T1 restarts.
+    fn restart(self, at: u32) -> Desk
+        ensures { λ r. ⌜ r ≡ restarted self at ⌝ }
+    {
+        let mut d = self;
         d.t1 = at;
         d
     }
 
     // The answer is stored, with zeros behind it.
     fn store(self, sent: &[u8]) -> Desk
-        requires { ⌜ length (now sent) ≤ 66 ⌝ }
+        requires { ⌜ length (now sent) ≤ longest ⌝ }
         ensures { λ r. ⌜ r ≡ withStored self (now (sent .entry)) ⌝ }
     {
-        let mut bytes = [0u8; 66];
+        let mut bytes = [0u8; LONGEST];
         let n = bytes::copy(sent, &mut bytes);
         let mut d = self;
         d.stored = bytes;
@@ -66,10 +60,10 @@ impl Desk {
 
     // A checksum fault: N with 1 and the number heard; all else unchanged.
     fn fault(self, lost: bool, number: u8, out: &mut [u8]) -> Hearing
-        requires { ⌜ (inRanges self ≡ true) × (number < 2) × (66 ≤ length (now out)) ⌝ }
+        requires { ⌜ (inRanges self ≡ true) × (number < 2) × (longest ≤ length (now out)) ⌝ }
         ensures { λ r. ⌜ (r .desk, toldOf (r .answer), now (out .exit)) ≡ faultedOf self lost number (now (out .entry)) ⌝ }
     {
-        let sent = send(self.line, Record::Rejected(49), number, out);
+        let sent = send(self.line, Record::Rejected(b'1' as u32), number, out);
         Hearing {
             desk: self,
             answer: Heard::Fault(lost, sent),
@@ -78,7 +72,7 @@ impl Desk {
 
     // A repeat: the stored answer again, bytes unchanged; handles nothing.
     fn repeat(self, out: &mut [u8]) -> Hearing
-        requires { ⌜ (inRanges self ≡ true) × (66 ≤ length (now out)) ⌝ }
+        requires { ⌜ (inRanges self ≡ true) × (longest ≤ length (now out)) ⌝ }
         ensures { λ r. ⌜ (r .desk, toldOf (r .answer), now (out .exit)) ≡ repeatedOf self (now (out .entry)) ⌝ }
     {
         let n = self.kept;
@@ -92,25 +86,25 @@ impl Desk {
 
     // Handled: the answer is stored and sent.
     fn handle(self, lost: bool, at: u32, number: u8, matter: Matter, out: &mut [u8]) -> Hearing
-        requires { ⌜ (inRanges self ≡ true) × (number < 2) × (66 ≤ length (now out)) ⌝ }
-        ensures { λ r. ⌜ (r .desk, toldOf (r .answer), now (out .exit)) ≡ handledOf self lost at number (replyOf self (matterOf matter)) (now (out .entry)) ⌝ }
+        requires { ⌜ (inRanges self ≡ true) × (number < 2) × (longest ≤ length (now out)) ⌝ }
+        ensures { λ r. ⌜ (r .desk, toldOf (r .answer), now (out .exit)) ≡ handledOf self lost at number (replyTo self (matterOf matter)) (now (out .entry)) ⌝ }
     {
         let reply = self.reply(matter);
-        let d = reply.desk;
         let rec = reply.rec;
         let source = reply.source;
         let sent = send(self.line, rec, number, out);
-        let m = d.mark(number, at);
-        let e = m.store(&out[..sent]);
+        let left = self.without(source);
+        let marked = left.mark(number);
+        let timed = marked.restart(at);
         Hearing {
-            desk: e,
+            desk: timed.store(&out[..sent]),
             answer: Heard::Handled(lost, source, sent),
         }
     }
 
     // The rule on a state, where this call noted the line lost or not.
     pub(crate) fn apply(self, lost: bool, at: u32, rule: Rule, out: &mut [u8]) -> Hearing
-        requires { ⌜ (inRanges self ≡ true) × (numberIn (rulingOf rule) < 2) × (66 ≤ length (now out)) ⌝ }
+        requires { ⌜ (inRanges self ≡ true) × (answersWith (rulingOf rule) < 2) × (longest ≤ length (now out)) ⌝ }
         ensures { λ r. ⌜ (r .desk, toldOf (r .answer), now (out .exit)) ≡ appliedOf self lost at (rulingOf rule) (now (out .entry)) ⌝ }
     {
         match rule {
@@ -118,8 +112,8 @@ impl Desk {
                 desk: self,
                 answer: Heard::Silent(lost, refusal),
             },
-            Rule::Fault(number) => self.fault(lost, number, out),
-            Rule::Repeat => self.repeat(out),
+            Rule::Fault(_, number) => self.fault(lost, number, out),
+            Rule::Repeat(_, _) => self.repeat(out),
             Rule::Handle(number, matter) => self.handle(lost, at, number, matter, out),
         }
     }

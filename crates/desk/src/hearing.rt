@@ -5,6 +5,8 @@ ghost use Rattle.desk.specs.Hearing.{hearOf};
 use crate::answers::Heard;
 use crate::applying::Hearing;
 use crate::state::Desk;
+use clock::room::LONGEST;
+use deciding::deciding::decide;
 use records::refusals::Refusal;
 
 impl Desk {
@@ -17,7 +19,7 @@ impl Desk {
                 answer: Heard::Refused(Refusal::State),
             };
         }
-        if out.len() < 66 {
+        if out.len() < LONGEST {
             return Hearing {
                 desk: self,
                 answer: Heard::Refused(Refusal::NoRoom),
@@ -25,7 +27,8 @@ impl Desk {
         }
         let lost = self.loses(at);
         let d = self.noted(lost);
-        let rule = d.decide(frame);
+        let last = d.last;
+        let rule = decide(d.line, d.good, last, frame);
         d.apply(lost, at, rule, out)
     }
 }

@@ -6,16 +6,16 @@ ghost use Rattle.desk.specs.Answers.{outcomeOf};
 ghost use Rattle.desk.specs.Panel.{losesLine, notedOf, withQueued, withRequested, withKey, recordFault, keyFault, tickOf, queueOf, setOf, keyOf};
 use crate::answers::Outcome;
 use crate::state::Desk;
-use crate::state::Slot;
 use crate::state::Step;
+use crate::state::Waiting;
 use crate::state::Wanted;
-use crate::state::is_key;
 use clock::clock::run_out;
 use forms::table::data_type;
 use reading::answers::Check;
 use records::records::Record;
 use records::records::type_of;
 use records::refusals::Refusal;
+use replying::fitting::is_key;
 use values::values::permits_record;
 
 // T1's limit, in milliseconds.
@@ -89,7 +89,7 @@ impl Desk {
     {
         let n = self.queued;
         let mut d = self;
-        d.queue[n] = Slot { rec };
+        d.queue[n] = Waiting { rec };
         d.queued = n + 1;
         d
     }

@@ -4,25 +4,22 @@ ghost use Prim.Native.Nat.{_≤_};
 ghost use lib.ListN.{take};
 ghost use Rattle.laws.specs.Truth.{every};
 ghost use Rattle.desk.specs.Answers.{outcomeOf};
-ghost use Rattle.desk.specs.State.{mayReply, slotFits, isKey, keyFits, keptFits, wantedFits, numbersFit, recordsFit, inRanges, fresh, startOf};
+ghost use Rattle.desk.specs.State.{waitingFits, keptFits, numbersFit, recordsFit, inRanges, fresh, startOf};
 use crate::answers::Outcome;
 use clock::counters::LastTaken;
-use forms::table::data_type;
+use clock::room::LONGEST;
+use clock::room::SHORTEST;
 use forms::table::is_line;
 use records::records::Record;
-use records::records::type_of;
 use records::refusals::Refusal;
-use values::values::permits_record;
+use replying::fitting::key_fits;
+use replying::fitting::may_reply;
+use replying::fitting::wanted_fits;
+pub use replying::replying::Wanted;
 
-// A place of the queue.
-pub struct Slot {
+// A record that waits in the queue.
+pub struct Waiting {
     pub rec: Record,
-}
-
-// The record set for r, where one is set.
-pub enum Wanted {
-    None,
-    Is(Record),
 }
 
 // Its line; whether the line is good; the last number taken; T1's start; the stored answer's length and bytes; the record set for r;
@@ -33,10 +30,10 @@ pub struct Desk {
     pub last: LastTaken,
     pub t1: u32,
     pub kept: usize,
-    pub stored: [u8; 66],
+    pub stored: [u8; LONGEST],
     pub requested: Wanted,
     pub queued: usize,
-    pub queue: [Slot; 8],
+    pub queue: [Waiting; 8],
     pub key: u8,
 }
 
@@ -46,40 +43,6 @@ pub struct Step {
     pub answer: Outcome,
 }
 
-// Whether a record is of the slave's data type on a line, with permitted values.
-fn may_reply(line: u8, rec: Record) -> bool
-    ensures { λ r. ⌜ r ≡ mayReply line rec ⌝ }
-{
-    if type_of(rec) == data_type(line) {
-        permits_record(line, rec)
-    } else {
-        false
-    }
-}
-
-// Whether a byte is A, X or Y.
-pub(crate) fn is_key(key: u8) -> bool
-    ensures { λ r. ⌜ r ≡ isKey key ⌝ }
-{
-    if key == b'A' {
-        return true;
-    }
-    if key == b'X' {
-        return true;
-    }
-    if key == b'Y' {
-        return true;
-    }
-    false
-}
-
-// Whether a key position is one of a line: A, X or Y on line 3, A on the others.
-fn key_fits(line: u8, key: u8) -> bool
-    ensures { λ r. ⌜ r ≡ keyFits line key ⌝ }
-{
-    if line == 3 { is_key(key) } else { key == b'A' }
-}
-
 // Whether a stored answer's length is one: 0 while the line is lost, or 10 to 66.
 fn kept_fits(good: bool, kept: usize) -> bool
     ensures { λ r. ⌜ r ≡ keptFits good kept ⌝ }
@@ -87,31 +50,21 @@ fn kept_fits(good: bool, kept: usize) -> bool
     if kept == 0 {
         return !good;
     }
-    if kept < 10 {
+    if kept < SHORTEST {
         return false;
     }
-    kept < 67
-}
-
-// Whether a requested record may answer r on a line.
-fn wanted_fits(line: u8, wanted: Wanted) -> bool
-    ensures { λ r. ⌜ r ≡ wantedFits line wanted ⌝ }
-{
-    match wanted {
-        Wanted::None => true,
-        Wanted::Is(rec) => may_reply(line, rec),
-    }
+    kept < LONGEST + 1
 }
 
 // Whether each of the first n queued records may answer t on a line.
-fn queue_fits(line: u8, queue: [Slot; 8], n: usize) -> bool
+fn queue_fits(line: u8, queue: [Waiting; 8], n: usize) -> bool
     requires { ⌜ n ≤ 8 ⌝ }
-    ensures { λ r. ⌜ r ≡ every (slotFits line) (take n queue) ⌝ }
+    ensures { λ r. ⌜ r ≡ every (waitingFits line) (take n queue) ⌝ }
 {
     let mut i: usize = 0;
     while i < n {
-        let slot = queue[i];
-        let rec = slot.rec;
+        let waiting = queue[i];
+        let rec = waiting.rec;
         if !may_reply(line, rec) {
             return false;
         }
@@ -176,10 +129,10 @@ impl Desk {
             last: LastTaken(0),
             t1: 0,
             kept: 0,
-            stored: [0u8; 66],
+            stored: [0u8; LONGEST],
             requested: Wanted::None,
             queued: 0,
-            queue: [Slot {
+            queue: [Waiting {
                 rec: Record::Approved(0),
             }; 8],
             key: b'A',

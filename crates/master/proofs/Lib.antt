@@ -1,4 +1,3 @@
 pub mod Ranges
-pub mod Judged
 pub mod Sends
 pub mod Hears

@@ -10,20 +10,22 @@ use Rattle.laws.proofs.Truths.{both-left, both-right, both-true}
 use Rattle.laws.proofs.Passes.{from-passes}
 use Rattle.laws.specs.Numerals.{numeralOn, leftOf}
 use Rattle.forms.specs.Forms.{isLine, byMaster, forms, onLine, lookIn, formOf, dataIn, dataType, slotsIn, countOf, slotsOf}
+use Rattle.records.specs.Refusals.{No, no}
 use Rattle.records.specs.Records.{typeOf}
 use Rattle.characters.specs.Characters.{inSet}
 use Rattle.records.specs.declared.records.Record.{Record}
 use Rattle.packets.specs.Packets.{packetOf, leadOf, isDecimal, permits}
 use Rattle.values.specs.Values.{permitsRecord, textOf, bodyOf, permittedFrom, permitted, permitsValue, permitsValues}
-use Rattle.reading.specs.Answers.{good, fault}
+use Rattle.reading.specs.Answers.{good, fails}
 use Rattle.clock.specs.Counters.{inRange}
+use Rattle.clock.specs.Room.{longest}
+use Rattle.judging.specs.Rules.{pollOf}
 use Rattle.master.specs.declared.state.Master.{Master}
-use Rattle.master.specs.Answers.{refuses, nothing}
+use Rattle.master.specs.Answers.{refused, nothing}
 use Rattle.master.specs.State.{isFree, sendable, inRanges, callFault, withLine, started, blank, startOf}
-use Rattle.master.specs.Rules.{pollOf}
 
 -- a fault is no pass
-pub no-pass : {A : Type 0} {k place : ℕ} → fault k place ≡ good → A
+pub no-pass : {A : Type 0} {x : No} → fails x ≡ good → A
 no-pass h = let z : _≡_ {A = ℕ} 0 1 = cc in let y : ⊥ = omega arith in absurd y
 
 -- the test, in the order of its parts
@@ -107,30 +109,30 @@ line-noted-busy m n g e h = rw e h
 
 -- 15, then 14
 module _ (m : Master) (room : ℕ) where
-  pub out-of-range : inRanges m ≡ false → fault 15 0 ≡ callFault m room
+  pub out-of-range : inRanges m ≡ false → fails (no 15 0) ≡ callFault m room
   unfolding callFault
   out-of-range h = rw h
 
-  pub no-room : inRanges m ≡ true → room < 66 → fault 14 0 ≡ callFault m room
+  pub no-room : inRanges m ≡ true → room < longest → fails (no 14 0) ≡ callFault m room
   unfolding callFault
-  no-room h k = rw (h, lt-ltb room 66 k)
+  no-room h k = rw (h, lt-ltb room longest k)
 
-  pub passes : inRanges m ≡ true → 66 ≤ room → good ≡ callFault m room
+  pub passes : inRanges m ≡ true → longest ≤ room → good ≡ callFault m room
   unfolding callFault
-  passes h k = rw (h, le-ltb room 66 k)
+  passes h k = rw (h, le-ltb room longest k)
 
-  pub passed : good ≡ callFault m room → (inRanges m ≡ true) × (66 ≤ room)
+  pub passed : good ≡ callFault m room → (inRanges m ≡ true) × (longest ≤ room)
   unfolding callFault
-  passed h = go (inRanges m) (ltb room 66) (ltb-false room 66) (sym h)
+  passed h = go (inRanges m) (ltb room longest) (ltb-false room longest) (sym h)
     where
-      go : (r s : Bool) → (s ≡ false → 66 ≤ room) → cond r (cond s (fault 14 0) good) (fault 15 0) ≡ good → (r ≡ true) × (66 ≤ room)
+      go : (r s : Bool) → (s ≡ false → longest ≤ room) → cond r (cond s (fails (no 14 0)) good) (fails (no 15 0)) ≡ good → (r ≡ true) × (longest ≤ room)
       go true false k e = (refl, k refl)
       go true true k e = no-pass e
       go false s k e = no-pass e
 
 -- the start, refused 15 where there is no such line
 module _ (line at : ℕ) where
-  pub start-refused : isLine line ≡ false → (blank, refuses 15 0) ≡ startOf line at
+  pub start-refused : isLine line ≡ false → (blank, refused (no 15 0)) ≡ startOf line at
   unfolding startOf
   start-refused h = rw h
 

@@ -1,23 +1,22 @@
 -- The answers of the master's offer and tick, one after the other. Assumes nothing.
-use mathlib.Core.Path.{_≡_, refl, sym, ap, _∙_}
+use mathlib.Core.Path.{_≡_, refl, sym, _∙_}
 use mathlib.Core.Bool.{Bool, true, false, cond}
-use mathlib.Core.List.{List, _++_}
+use mathlib.Core.List.{List}
 use Prim.Native.Nat.{ℕ, _+_, _≤_, _<_}
-use native.Mathlib.Omega.{arith}
-use lib.ListN.{length, drop}
+use lib.ListN.{length}
 use borrow.Author.Tests.{eq-eqb, ne-eqb}
 use Rattle.forms.specs.Forms.{byMaster}
-use Rattle.records.specs.Refusals.{numberOf, placeOf}
+use Rattle.records.specs.Refusals.{no, refusalOf}
 use Rattle.records.specs.Records.{typeOf}
 use Rattle.records.specs.declared.records.Record.{Record}
 use Rattle.records.specs.declared.refusals.Refusal.{Refusal}
-use Rattle.values.specs.Values.{permitsRecord, lengthOf}
-use Rattle.reading.specs.Answers.{good, fault, Outcome, wrote, refusesTo, outcomeOf}
-use Rattle.writing.specs.Writing.{telegramOf, writingOf}
-use Rattle.reading.specs.declared.answers.Writing.{Writing}
-use Rattle.reading.specs.declared.answers.Writing.the-variants.{Written, Refused}
-use Rattle.roundtrips.proofs.Trips.{output, length-bounds}
+use Rattle.values.specs.Values.{permitsRecord}
+use Rattle.reading.specs.Answers.{good, fails}
+use Rattle.writing.specs.Writing.{sendOf}
+use Rattle.roundtrips.proofs.Trips.{sent-whole}
 use Rattle.clock.specs.Clock.{runOut}
+use Rattle.clock.specs.Room.{longest}
+use Rattle.judging.specs.Rules.{pollOf}
 use Rattle.master.specs.declared.state.Master.{Master}
 use Rattle.master.specs.declared.state.Step.{Step}
 use Rattle.master.specs.declared.answers.Sending.{Sending}
@@ -26,48 +25,24 @@ use Rattle.master.specs.declared.answers.Cause.{Cause}
 use Rattle.master.specs.declared.answers.Cause.the-variants.{Silence}
 use Rattle.master.specs.Answers.{toldOf, nothing, sent, givenUp}
 use Rattle.master.specs.State.{isFree, callFault, afterSending, withLine, givenUpState}
-use Rattle.master.specs.Rules.{t0Limit, t2Limit, pollOf}
-use Rattle.master.specs.Sending.{Turn, putOf, sendingOf, failedOf, offerFault, offerOf, pollingOf, waitingOf, tickOf}
+use Rattle.master.specs.Sending.{Behind, t0Limit, t2Limit, sendingOf, failedOf, offerFault, offerOf, pollingOf, waitingOf, tickOf}
 use Rattle.master.proofs.Ranges.{no-pass}
 use Rattle.master.specs.declared.answers.Answer as a
 
 -- a step with the output behind it
-abbrev pub stepped : Step → List ℕ → Turn
+abbrev pub stepped : Step → List ℕ → Behind
 stepped s out = (s .master, (toldOf (s .answer), out))
 
 -- a refused call's step
 abbrev pub refusing : Master → Refusal → Step
 refusing m x = record { master = m; answer = a.the-variants.Refused x }
 
--- a permitted record's telegram is written where there is room for any
-module _ (line : ℕ) (rec : Record) (number : ℕ) (out new : List ℕ) (p : permitsRecord line rec ≡ true) (n : number < 2) (r : 66 ≤ length out) where
-  written : writingOf line rec number out ≡ (wrote (lengthOf line rec), telegramOf line rec number ++ drop (lengthOf line rec) out)
-  written = output line rec number out p n (let b = length-bounds line rec p in omega arith)
-
-  module _ (w : Writing) (e : (outcomeOf w, new) ≡ writingOf line rec number out) where
-    outcome : outcomeOf w ≡ wrote (lengthOf line rec)
-    outcome = ap (λ (q : Outcome × List ℕ). q .0) (e ∙ written)
-
-    pub put-written : (bytes : ℕ) → w ≡ Written bytes → (bytes, new) ≡ putOf line rec number out
-    unfolding putOf
-    put-written bytes h =
-        let x : wrote bytes ≡ wrote (lengthOf line rec) = rw h at outcome in
-        let y : new ≡ telegramOf line rec number ++ drop (lengthOf line rec) out = ap (λ (q : Outcome × List ℕ). q .1) (e ∙ written) in
-        let z : bytes ≡ lengthOf line rec = cc in
-        rw (z, y)
-
-    pub never-refused : {A : Type 0} (x : Refusal) → w ≡ Refused x → A
-    never-refused x h =
-        let k : refusesTo (numberOf x) (placeOf x) ≡ wrote (lengthOf line rec) = rw h at outcome in
-        let z : _≡_ {A = ℕ} 0 1 = cc in
-        let y : ⊥ = omega arith in
-        absurd y
-
-pub sent-off : (sending : Sending) (m n : Master) (rec : Record) (count at bytes : ℕ) (out new : List ℕ) → n ≡ afterSending m rec count at → (bytes, new) ≡ putOf (m .line) rec (m .number .0) out
-    → (n, (sent sending count bytes, new)) ≡ sendingOf sending m rec count at out
+pub sent-off : (sending : Sending) (m n : Master) (rec : Record) (count at number bytes : ℕ) (out new : List ℕ) → permitsRecord (m .line) rec ≡ true → m .number .0 < 2 → longest ≤ length out
+    → n ≡ afterSending m rec count at → number ≡ m .number .0 → (bytes, new) ≡ sendOf (m .line) rec number out → (n, (sent sending count bytes, new)) ≡ sendingOf sending m rec count at out
 unfolding sendingOf
-sent-off sending m n rec count at bytes out new e f =
-    rw e (ap (λ (q : ℕ × List ℕ). (afterSending m rec count at, (sent sending count (q .0), q .1))) f)
+sent-off sending m n rec count at number bytes out new p l room e q f =
+    let g : (bytes, new) ≡ sendOf (m .line) rec (m .number .0) out = rw q at f in
+    rw (e, ← (g ∙ sent-whole (m .line) rec (m .number .0) out p l room))
 
 module _ (cause : Cause) (g : Bool) (m : Master) (at : ℕ) (out : List ℕ) where
   pub gave-up : m .count ≡ 3 → (n : Master) → n ≡ givenUpState (withLine m g) → (n, (givenUp cause (m .count), out)) ≡ failedOf cause g m at out
@@ -80,16 +55,16 @@ module _ (cause : Cause) (g : Bool) (m : Master) (at : ℕ) (out : List ℕ) whe
 
 -- 16, then 12, then 13
 module _ (m : Master) (rec : Record) where
-  pub not-free : ¬ (m .count ≡ 0) → fault 16 0 ≡ offerFault m rec
+  pub not-free : ¬ (m .count ≡ 0) → fails (no 16 0) ≡ offerFault m rec
   unfolding offerFault
   not-free h = rw (ne-eqb (m .count) 0 h)
 
   module _ (f : m .count ≡ 0) (kind : ℕ) (e : kind ≡ typeOf rec) where
-    pub not-sent : byMaster (m .line) kind ≡ false → fault 12 0 ≡ offerFault m rec
+    pub not-sent : byMaster (m .line) kind ≡ false → fails (no 12 0) ≡ offerFault m rec
     unfolding offerFault
     not-sent h = let k : byMaster (m .line) (typeOf rec) ≡ false = rw e at h in rw (eq-eqb (m .count) 0 f, k)
 
-    pub not-permitted : byMaster (m .line) kind ≡ true → permitsRecord (m .line) rec ≡ false → fault 13 0 ≡ offerFault m rec
+    pub not-permitted : byMaster (m .line) kind ≡ true → permitsRecord (m .line) rec ≡ false → fails (no 13 0) ≡ offerFault m rec
     unfolding offerFault
     not-permitted h p = let k : byMaster (m .line) (typeOf rec) ≡ true = rw e at h in rw (eq-eqb (m .count) 0 f, k, p)
 
@@ -101,19 +76,19 @@ module _ (m : Master) (rec : Record) where
   unfolding offerFault
   offer-passed h = go (isFree m) (byMaster (m .line) (typeOf rec)) (permitsRecord (m .line) rec) (sym h)
     where
-      go : (f b p : Bool) → cond f (cond b (cond p good (fault 13 0)) (fault 12 0)) (fault 16 0) ≡ good → (f ≡ true) × ((b ≡ true) × (p ≡ true))
+      go : (f b p : Bool) → cond f (cond b (cond p good (fails (no 13 0))) (fails (no 12 0))) (fails (no 16 0)) ≡ good → (f ≡ true) × ((b ≡ true) × (p ≡ true))
       go true true true e = (refl, (refl, refl))
       go true true false e = no-pass e
       go true false p e = no-pass e
       go false b p e = no-pass e
 
 module _ (m : Master) (at : ℕ) (rec : Record) (out : List ℕ) where
-  pub offer-refused : (x : Refusal) → fault (numberOf x) (placeOf x) ≡ callFault m (length out) → (s : Step) → s ≡ refusing m x → stepped s out ≡ offerOf m at rec out
+  pub offer-refused : (x : Refusal) → fails (refusalOf x) ≡ callFault m (length out) → (s : Step) → s ≡ refusing m x → stepped s out ≡ offerOf m at rec out
   unfolding offerOf
   offer-refused x h s e = rw (e, ← h)
 
   module _ (g : good ≡ callFault m (length out)) where
-    pub offer-barred : (x : Refusal) → fault (numberOf x) (placeOf x) ≡ offerFault m rec → (s : Step) → s ≡ refusing m x → stepped s out ≡ offerOf m at rec out
+    pub offer-barred : (x : Refusal) → fails (refusalOf x) ≡ offerFault m rec → (s : Step) → s ≡ refusing m x → stepped s out ≡ offerOf m at rec out
     unfolding offerOf
     offer-barred x h s e = rw (e, ← g, ← h)
 
@@ -132,16 +107,15 @@ module _ (m : Master) (at : ℕ) (out : List ℕ) where
     unfolding pollingOf
     polled h rec q = rw (← e, h, q)
 
-  module _ (limit : ℕ) (e : limit ≡ t2Limit m) where
-    pub waits : runOut at (m .t2) limit ≡ false → (m, (nothing, out)) ≡ waitingOf m at out
-    unfolding waitingOf
-    waits h = rw (← e, h)
+  pub waits : runOut at (m .t2) t2Limit ≡ false → (m, (nothing, out)) ≡ waitingOf m at out
+  unfolding waitingOf
+  waits h = rw h
 
-    pub silent : runOut at (m .t2) limit ≡ true → failedOf Silence false m at out ≡ waitingOf m at out
-    unfolding waitingOf
-    silent h = rw (← e, h)
+  pub silent : runOut at (m .t2) t2Limit ≡ true → failedOf Silence false m at out ≡ waitingOf m at out
+  unfolding waitingOf
+  silent h = rw h
 
-  pub tick-refused : (x : Refusal) → fault (numberOf x) (placeOf x) ≡ callFault m (length out) → (s : Step) → s ≡ refusing m x → stepped s out ≡ tickOf m at out
+  pub tick-refused : (x : Refusal) → fails (refusalOf x) ≡ callFault m (length out) → (s : Step) → s ≡ refusing m x → stepped s out ≡ tickOf m at out
   unfolding tickOf
   tick-refused x h s e = rw (e, ← h)
 

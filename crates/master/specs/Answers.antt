@@ -1,6 +1,6 @@
 -- What the master's calls answer, in the paper's numbers and values (01 'Link rules', 'Numbered answers'). Assumes nothing.
 use Prim.Native.Nat.{ℕ}
-use Rattle.records.specs.Refusals.{numberOf, placeOf}
+use Rattle.records.specs.Refusals.{No, refusalOf}
 use Rattle.records.specs.declared.records.Record.{Record}
 use Rattle.reading.specs.Answers.{Answer, answerOf}
 use Rattle.master.specs.declared.answers.Sending.{Sending}
@@ -8,36 +8,35 @@ use Rattle.master.specs.declared.answers.Cause.{Cause}
 use Rattle.master.specs.declared.answers.Reason as r
 use Rattle.master.specs.declared.answers.Answer as a
 
--- why a hearing was ignored: while free, when T2 has run out, when refused 1 to 7 (number and place), or when the number is another
+-- why a hearing was ignored: while free, when T2 has run out, when refused 1 to 7, or when the number is another
 pub data Why : Type 0 where
   free : Why
   runOut : Why
-  refused : ℕ → ℕ → Why
+  refused : No → Why
   otherNumber : Why
 
 abbrev pub whyOf : r.Reason → Why
 whyOf r.the-variants.Free = free
 whyOf r.the-variants.RunOut = runOut
-whyOf (r.the-variants.Refused x) = refused (numberOf x) (placeOf x)
+whyOf (r.the-variants.Refused x) = refused (refusalOf x)
 whyOf r.the-variants.OtherNumber = otherNumber
 
 -- what a call did
 pub data Told : Type 0 where
-  -- refused, with number and place
-  refuses : ℕ → ℕ → Told
+  refused : No → Told
   nothing : Told
   -- which sending, the sending count, and how many bytes
   sent : Sending → ℕ → ℕ → Told
   -- a permitted answer with its record, and the sending count
   answered : Record → ℕ → Told
-  -- an answer of another kind as it was read, a refusal's number and place where it was refused, and the sending count
+  -- an answer of another kind as it was read, and the sending count
   otherKind : Answer → ℕ → Told
   -- for which cause, and the sending count
   givenUp : Cause → ℕ → Told
   ignored : Why → Told
 
 abbrev pub toldOf : a.Answer → Told
-toldOf (a.the-variants.Refused x) = refuses (numberOf x) (placeOf x)
+toldOf (a.the-variants.Refused x) = refused (refusalOf x)
 toldOf a.the-variants.Nothing = nothing
 toldOf (a.the-variants.Sent sending count bytes) = sent sending count bytes
 toldOf (a.the-variants.Answered rec count) = answered rec count

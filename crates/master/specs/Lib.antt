@@ -1,5 +1,4 @@
 pub mod Answers
 pub mod State
-pub mod Rules
 pub mod Sending
 pub mod Hearing

@@ -5,15 +5,17 @@ use mathlib.Core.Bool.{Bool, true, false, cond}
 use lib.Dec.{ltb, eqb}
 use Rattle.laws.specs.Truth.{both, either}
 use Rattle.forms.specs.Forms.{isLine, byMaster}
+use Rattle.records.specs.Refusals.{no}
 use Rattle.records.specs.Records.{typeOf}
 use Rattle.records.specs.declared.records.Record.{Record}
 use Rattle.records.specs.declared.records.Record.the-variants.{Idling}
 use Rattle.values.specs.Values.{permitsRecord}
-use Rattle.reading.specs.Answers.{Fault, good, fault}
+use Rattle.reading.specs.Answers.{Fault, good, fails}
+use Rattle.clock.specs.Room.{longest}
 use Rattle.clock.specs.Counters.{inRange, changedOf}
 use Rattle.clock.specs.declared.counters.ToSend.{ToSend}
 use Rattle.master.specs.declared.state.Master.{Master}
-use Rattle.master.specs.Answers.{Told, refuses, nothing}
+use Rattle.master.specs.Answers.{Told, refused, nothing}
 
 -- a number to send
 abbrev pub toSend : ℕ → ToSend
@@ -29,7 +31,7 @@ blank = record { line = 0; good = false; number = toSend 0; count = 0; rec = Idl
 
 -- 15 where the line is not 1, 2 or 3
 unfoldable pub startOf : ℕ → ℕ → Master × Told
-startOf line at = cond (isLine line) (started line at, nothing) (blank, refuses 15 0)
+startOf line at = cond (isLine line) (started line at, nothing) (blank, refused (no 15 0))
 
 -- free: no sending waits or is to be made again
 abbrev pub isFree : Master → Bool
@@ -45,7 +47,7 @@ inRanges m = both (isLine (m .line)) (both (inRange (m .number .0)) (either (isF
 
 -- calls that may send: 15 where the state is out of its ranges, then 14 under 66 bytes of room
 unfoldable pub callFault : Master → ℕ → Fault
-callFault m room = cond (inRanges m) (cond (ltb room 66) (fault 14 0) good) (fault 15 0)
+callFault m room = cond (inRanges m) (cond (ltb room longest) (fails (no 14 0)) good) (fails (no 15 0))
 
 -- behind a sending, which restarts T0 and T2
 abbrev pub afterSending : Master → Record → ℕ → ℕ → Master

@@ -1,6 +1,5 @@
 // The master of a line, the bench (01 'Link rules').
 pub mod answers;
 pub mod hearing;
-pub mod rules;
 pub mod sending;
 pub mod state;

@@ -5,46 +5,46 @@ ghost use Prim.Native.Nat.{_≤_, _<_};
 ghost use lib.ListN.{length};
 ghost use Rattle.values.specs.Values.{permitsRecord};
 ghost use Rattle.reading.specs.Answers.{faultOf};
+ghost use Rattle.clock.specs.Room.{longest};
 ghost use Rattle.master.specs.Answers.{toldOf};
 ghost use Rattle.master.specs.State.{isFree, inRanges, withLine, givenUpState};
-ghost use Rattle.master.specs.Sending.{putOf, sendingOf, failedOf, offerFault, offerOf, pollingOf, waitingOf, tickOf};
+ghost use Rattle.master.specs.Sending.{t0Limit, sendingOf, failedOf, offerFault, offerOf, pollingOf, waitingOf, tickOf};
 use crate::answers::Answer;
 use crate::answers::Cause;
 use crate::answers::Sending;
-use crate::rules::poll_of;
 use crate::state::Master;
 use crate::state::Step;
 use clock::clock::run_out;
 use clock::counters::ToSend;
 use forms::table::by_master;
+use judging::rules::poll_of;
 use reading::answers::Check;
-use reading::answers::Writing;
 use records::records::Record;
 use records::records::type_of;
 use records::refusals::Refusal;
 use values::values::permits_record;
-use writing::writing::write;
+use writing::sending::send;
 
-// The telegram of a permitted record, at the front of an output with room for any, and its length.
-fn put(line: u8, rec: Record, number: u8, out: &mut [u8]) -> usize
-    requires { ⌜ (permitsRecord line rec ≡ true) × ((number < 2) × (66 ≤ length (now out))) ⌝ }
-    ensures { λ r. ⌜ (r, now (out .exit)) ≡ putOf line rec number (now (out .entry)) ⌝ }
-{
-    let done = write(line, rec, number, out);
-    match done {
-        Writing::Written(n) => n,
-        Writing::Refused(_) => 0,
-    }
-}
+// The limits in milliseconds.
+const T0: u32 = 20_000;
+
+pub(crate) const T2: u32 = 2_000;
 
 impl Master {
+    // T0 is 20,000.
+    fn t0_limit(self) -> u32
+        ensures { λ r. ⌜ r ≡ t0Limit self ⌝ }
+    {
+        T0
+    }
+
     // Sends a record's telegram with the number to send; every sending restarts T0 and T2.
     fn send(self, sending: Sending, rec: Record, count: u8, at: u32, out: &mut [u8]) -> Step
-        requires { ⌜ (permitsRecord (self .line) rec ≡ true) × ((self .number .0 < 2) × (66 ≤ length (now out))) ⌝ }
+        requires { ⌜ (permitsRecord (self .line) rec ≡ true) × ((self .number .0 < 2) × (longest ≤ length (now out))) ⌝ }
         ensures { λ r. ⌜ (r .master, (toldOf (r .answer), now (out .exit))) ≡ sendingOf sending self rec count at (now (out .entry)) ⌝ }
     {
         let number = self.number;
-        let bytes = put(self.line, rec, number.0, out);
+        let bytes = send(self.line, rec, number.value(), out);
         Step {
             master: self.after_sending(rec, count, at),
             answer: Answer::Sent {
@@ -65,7 +65,7 @@ impl Master {
 
     // A failed sending: sent again with a count of 1 or 2, given up with 3.
     pub(crate) fn fail(self, cause: Cause, good: bool, at: u32, out: &mut [u8]) -> Step
-        requires { ⌜ (inRanges self ≡ true) × ((isFree self ≡ false) × (66 ≤ length (now out))) ⌝ }
+        requires { ⌜ (inRanges self ≡ true) × ((isFree self ≡ false) × (longest ≤ length (now out))) ⌝ }
         ensures { λ r. ⌜ (r .master, (toldOf (r .answer), now (out .exit))) ≡ failedOf cause good self at (now (out .entry)) ⌝ }
     {
         let count = self.count;
@@ -112,7 +112,7 @@ impl Master {
 
     // Tick while free and T0 run out: sends the poll.
     fn poll(self, at: u32, out: &mut [u8]) -> Step
-        requires { ⌜ (inRanges self ≡ true) × (66 ≤ length (now out)) ⌝ }
+        requires { ⌜ (inRanges self ≡ true) × (longest ≤ length (now out)) ⌝ }
         ensures { λ r. ⌜ (r .master, (toldOf (r .answer), now (out .exit))) ≡ pollingOf self at (now (out .entry)) ⌝ }
     {
         if !run_out(at, self.t0, self.t0_limit()) {
@@ -126,10 +126,10 @@ impl Master {
 
     // Tick while not free and T2 run out: a failed sending; giving up notes the line lost.
     fn wait(self, at: u32, out: &mut [u8]) -> Step
-        requires { ⌜ (inRanges self ≡ true) × ((isFree self ≡ false) × (66 ≤ length (now out))) ⌝ }
+        requires { ⌜ (inRanges self ≡ true) × ((isFree self ≡ false) × (longest ≤ length (now out))) ⌝ }
         ensures { λ r. ⌜ (r .master, (toldOf (r .answer), now (out .exit))) ≡ waitingOf self at (now (out .entry)) ⌝ }
     {
-        if !run_out(at, self.t2, self.t2_limit()) {
+        if !run_out(at, self.t2, T2) {
             return Step {
                 master: self,
                 answer: Answer::Nothing,

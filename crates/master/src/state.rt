@@ -6,6 +6,7 @@ ghost use Rattle.master.specs.declared.answers.Answer.the-variants;
 ghost use Rattle.master.specs.State.{sendable, inRanges, callFault, afterSending, withLine, freed, answeredState, startOf};
 use crate::answers::Answer;
 use clock::counters::ToSend;
+use clock::room::LONGEST;
 use forms::table::by_master;
 use forms::table::is_line;
 use reading::answers::Check;
@@ -54,7 +55,7 @@ impl Master {
                     good: false,
                     number: ToSend(0),
                     count: 0,
-                    rec: Record::Idling(116),
+                    rec: Record::Idling(b't' as u32),
                     t0: 0,
                     t2: 0,
                 },
@@ -67,7 +68,7 @@ impl Master {
                 good: true,
                 number: ToSend(0),
                 count: 0,
-                rec: Record::Idling(116),
+                rec: Record::Idling(b't' as u32),
                 t0: at,
                 t2: at,
             },
@@ -103,7 +104,7 @@ impl Master {
         if !self.in_ranges() {
             return Check::Fails(Refusal::State);
         }
-        if room < 66 {
+        if room < LONGEST {
             return Check::Fails(Refusal::NoRoom);
         }
         Check::Good

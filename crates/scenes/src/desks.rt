@@ -10,8 +10,8 @@ use desk::answers::Outcome;
 use desk::answers::Source;
 use desk::applying::Hearing;
 use desk::state::Desk;
-use desk::state::Slot;
 use desk::state::Step;
+use desk::state::Waiting;
 use desk::state::Wanted;
 use records::refusals::Refusal;
 
@@ -128,7 +128,7 @@ fn requested(wanted: Wanted) {
     }
 }
 
-fn waiting(queue: [Slot; 8], queued: usize) {
+fn waiting(queue: [Waiting; 8], queued: usize) {
     for j in 0..8 {
         if j < queued {
             let slot = queue[j];

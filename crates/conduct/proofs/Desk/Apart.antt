@@ -1,17 +1,18 @@
 -- The paper's numbers and values tell the desk's answers apart (01 'What the promises say'). Assumes nothing.
 use mathlib.Core.Path.{_≡_, refl, sym, ap, _∙_}
-use Rattle.papers.specs.Answers.{refusalOf, refusal-back}
-use Rattle.desk.specs.Answers.{Done, done, lost, refuses, outcomeOf, Origin, requested, oldest, keyed, handed, contents, notMaster, nothingSet, originOf}
-use Rattle.desk.specs.Answers.{Told, turnsDown, silent, faulted, repeated, handled, toldOf}
+use Rattle.replying.specs.Replying.{Origin, requested, queue, key, panel, contents, notMaster, nothingSet, originOf}
+use Rattle.replying.specs.declared.replying.Source as s
+use Rattle.desk.specs.Answers.{Done, done, lost, outcomeOf, Told, silent, fault, repeat, handled, toldOf}
+use Rattle.desk.specs.Answers as t
 use Rattle.desk.specs.declared.answers.Outcome as o
-use Rattle.desk.specs.declared.answers.Source as s
 use Rattle.desk.specs.declared.answers.Heard as h
+use Rattle.conduct.proofs.Back.{backOf, refusal-back}
 
 -- the answer of what is told: of a call that hears nothing
 abbrev outcomeBack : Done → o.Outcome
 outcomeBack done = o.the-variants.Done
 outcomeBack lost = o.the-variants.Lost
-outcomeBack (refuses number place) = o.the-variants.Refused (refusalOf number place)
+outcomeBack (t.refused x) = o.the-variants.Refused (backOf x)
 
 outcome-back : (x : o.Outcome) → outcomeBack (outcomeOf x) ≡ x
 outcome-back o.the-variants.Done = refl
@@ -21,17 +22,17 @@ outcome-back (o.the-variants.Refused x) = ap o.the-variants.Refused (refusal-bac
 -- of where an answer comes from
 abbrev sourceBack : Origin → s.Source
 sourceBack requested = s.the-variants.Requested
-sourceBack oldest = s.the-variants.Queue
-sourceBack (keyed key) = s.the-variants.Key key
-sourceBack (handed with rec) = s.the-variants.Panel rec
-sourceBack (contents with number place) = s.the-variants.Contents (refusalOf number place)
-sourceBack (notMaster with) = s.the-variants.NotMaster
-sourceBack (nothingSet with) = s.the-variants.NothingSet
+sourceBack queue = s.the-variants.Queue
+sourceBack (key b) = s.the-variants.Key b
+sourceBack (panel value rec) = s.the-variants.Panel rec
+sourceBack (contents value x) = s.the-variants.Contents (backOf x)
+sourceBack (notMaster value) = s.the-variants.NotMaster
+sourceBack (nothingSet value) = s.the-variants.NothingSet
 
 source-back : (x : s.Source) → sourceBack (originOf x) ≡ x
 source-back s.the-variants.Requested = refl
 source-back s.the-variants.Queue = refl
-source-back (s.the-variants.Key key) = refl
+source-back (s.the-variants.Key b) = refl
 source-back (s.the-variants.Panel rec) = refl
 source-back (s.the-variants.Contents x) = ap s.the-variants.Contents (refusal-back x)
 source-back s.the-variants.NotMaster = refl
@@ -39,10 +40,10 @@ source-back s.the-variants.NothingSet = refl
 
 -- of a hearing
 abbrev heardBack : Told → h.Heard
-heardBack (turnsDown number place) = h.the-variants.Refused (refusalOf number place)
-heardBack (silent noted number place) = h.the-variants.Silent noted (refusalOf number place)
-heardBack (faulted noted with n) = h.the-variants.Fault noted n
-heardBack (repeated n) = h.the-variants.Repeat n
+heardBack (t.refused x) = h.the-variants.Refused (backOf x)
+heardBack (silent noted x) = h.the-variants.Silent noted (backOf x)
+heardBack (fault noted value n) = h.the-variants.Fault noted n
+heardBack (repeat n) = h.the-variants.Repeat n
 heardBack (handled noted origin n) = h.the-variants.Handled noted (sourceBack origin) n
 
 heard-back : (x : h.Heard) → heardBack (toldOf x) ≡ x

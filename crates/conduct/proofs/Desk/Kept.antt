@@ -2,7 +2,8 @@
 use mathlib.Core.Path.{_≡_, refl, _∙_}
 use mathlib.Core.Bool.{Bool, true, false, cond}
 use mathlib.Core.List.{List, [], _∷_}
-use Prim.Native.Nat.{ℕ, _≤_, _<_}
+use Prim.Native.Nat.{ℕ, _+_, _≤_, _<_}
+use Prim.Native.Char.{code}
 use native.Mathlib.Omega.{arith}
 use lib.Dec.{eqb}
 use lib.ListN.{length, drop, replicate, length-append, length-drop, length-set}
@@ -13,25 +14,28 @@ use Rattle.records.specs.declared.records.Record.{Record}
 use Rattle.values.specs.Values.{permitsRecord}
 use Rattle.writing.specs.Writing.{telegramOf}
 use Rattle.roundtrips.proofs.Trips.{telegram-length, length-bounds}
-use Rattle.desk.specs.Answers.{done, lost, refuses, turnsDown, silent, faulted, repeated}
+use Rattle.clock.specs.Room.{shortest, longest}
+use Rattle.deciding.specs.Deciding.{What, contents, notMaster, request, poll, other}
+use Rattle.replying.specs.Fitting.{mayReply, keyFits, wantedFits}
+use Rattle.replying.specs.Replying.{askedOf, polledOf}
+use Rattle.replying.specs.declared.replying.Wanted.{Wanted}
+use Rattle.replying.specs.declared.replying.Wanted.the-variants.{None, Is}
+use Rattle.desk.specs.Answers.{done, lost, silent, fault, repeat}
 use Rattle.desk.specs.Answers as h
-use Rattle.desk.specs.State.{mayReply, slotFits, keyFits, keptFits, wantedFits, numbersFit, recordsFit, inRanges, fresh, startOf}
+use Rattle.desk.specs.State.{waitingFits, keptFits, numbersFit, recordsFit, inRanges, fresh, startOf}
 use Rattle.desk.specs.Panel.{losesLine, notedOf, withQueued, withRequested, withKey, tickOf, queueOf, setOf, keyOf}
-use Rattle.desk.specs.Rules.{What, misread, strange, request, poll, other}
-use Rattle.desk.specs.Replies.{askedOf, polledOf, popped, replyOf}
-use Rattle.desk.specs.Hearing.{withStored, marked, faultedOf, repeatedOf, handledOf, hearOf}
+use Rattle.desk.specs.Queue.{replyTo, popped, takenBy}
+use Rattle.desk.specs.Hearing.{withStored, marked, restarted, faultedOf, repeatedOf, handledOf, hearOf}
 use Rattle.desk.specs.declared.state.Desk.{Desk}
-use Rattle.desk.specs.declared.state.Wanted.{Wanted}
-use Rattle.desk.specs.declared.state.Wanted.the-variants.{None, Is}
 use Rattle.desk.proofs.Ranges.{Fits, ranges-parts, parts-ranges, noted-ranges, kept-most}
-use Rattle.desk.proofs.Permitted.{reply-permitted}
+use Rattle.desk.proofs.Permitted.{answer-permitted}
 use Rattle.conduct.proofs.Desk.Waiting.{waiting, filled-behind, oldest-taken, every-behind, every-tail}
-use Rattle.conduct.proofs.Desk.Steps.{Call, ticks, queues, sets, turns, hears, Answered, did, heard, Turn, after, noted, Does, refused, noRoom, ticked, queued, isSet, turned, unmoved, faults, repeats, handled, does}
+use Rattle.conduct.proofs.Desk.Steps.{Call, ticks, queues, sets, turns, hears, Answered, did, heard, Behind, after, noted, Does, barred, noRoom, ticked, queued, isSet, turned, unmoved, faults, repeats, handled, does}
 
 -- a state in its ranges, with 66 places for the stored answer and 8 for the queue
 pub record Fine (d : Desk) : Type 0 where
   pub ranged : inRanges d ≡ true
-  pub stores : length (d .stored) ≡ 66
+  pub stores : length (d .stored) ≡ longest
   pub holds : length (d .queue) ≡ 8
 
 -- what a call keeps: the state is fine behind it, and the line is the same
@@ -40,7 +44,7 @@ pub record Keeps (d e : Desk) : Type 0 where
   pub line : e .line ≡ d .line
 
 -- the key position A is one of each line
-a-fits : (line : ℕ) → keyFits line 65 ≡ true
+a-fits : (line : ℕ) → keyFits line (code "A") ≡ true
 unfolding keyFits
 a-fits line = on-test (eqb line 3) (λ e. rw e) (λ e. rw e)
 
@@ -71,7 +75,7 @@ module _ (d : Desk) (f : Fine d) where
   queued-keeps rec m q =
       let p = fits in
       let e = filled-behind (d .queue) (d .queued) (record { rec = rec }) (omega (arith, f .holds)) in
-      let w = every-behind (slotFits (d .line)) (waiting d) (record { rec = rec }) (p .waiting) m in
+      let w = every-behind (waitingFits (d .line)) (waiting d) (record { rec = rec }) (p .waiting) m in
       record {
         fine = record {
           ranged = parts-ranges (withQueued d rec)
@@ -114,7 +118,7 @@ module _ (d : Desk) (f : Fine d) where
   popped-keeps =
       let p = fits in
       let e = oldest-taken (d .queue) (d .queued) (f .holds) (p .few) in
-      let w = every-tail (slotFits (d .line)) (waiting d) (p .waiting) in
+      let w = every-tail (waitingFits (d .line)) (waiting d) (p .waiting) in
       record {
         fine = record {
           ranged = parts-ranges (popped d)
@@ -129,13 +133,13 @@ module _ (d : Desk) (f : Fine d) where
   stays = record { fine = f; line = refl }
 
   -- the state behind the choice of an answer
-  pub replied-keeps : (what : What) → Keeps d (replyOf d what .0)
+  pub replied-keeps : (what : What) → Keeps d (takenBy d (replyTo d what .1))
   unfolding polledOf
-  replied-keeps (misread number place) = stays
-  replied-keeps strange = stays
+  replied-keeps (contents x) = stays
+  replied-keeps notMaster = stays
   replied-keeps request = asked (d .requested)
     where
-      asked : (w : Wanted) → Keeps d (askedOf d w .0)
+      asked : (w : Wanted) → Keeps d (takenBy d (askedOf w .1))
       asked None = stays
       asked (Is rec) = stays
   replied-keeps poll = on-test (eqb (d .queued) 0) (λ e. rw e stays) (λ e. rw e popped-keeps)
@@ -143,29 +147,29 @@ module _ (d : Desk) (f : Fine d) where
 
 -- a handled telegram's answer stored
 stored-keeps : (d : Desk) → Fine d → (line : ℕ) (rec : Record) (number at : ℕ) → permitsRecord line rec ≡ true → number < 2
-    → Keeps d (withStored (marked d number at) (telegramOf line rec number))
+    → Keeps d (withStored (restarted (marked d number) at) (telegramOf line rec number))
 unfolding keptFits
 stored-keeps d f line rec number at m n =
     let p = fits d f in
     let t = telegramOf line rec number in
     let l = telegram-length line rec number m in
     let b = length-bounds line rec m in
-    let k : length t < 67 = omega arith in
-    let j : 10 ≤ length t = omega arith in
+    let k : length t < longest + 1 = omega arith in
+    let j : shortest ≤ length t = omega arith in
     let z : ¬ (length t ≡ 0) = λ q. omega arith in
     record {
       fine = record {
-        ranged = parts-ranges (withStored (marked d number at) t)
+        ranged = parts-ranges (withStored (restarted (marked d number) at) t)
             (record {
               lined = p .lined;
               numbered = lt-ltb number 2 n;
               few = p .few;
               keyed = p .keyed;
-              stocked = rw (ne-eqb (length t) 0 z, le-ltb (length t) 10 j, lt-ltb (length t) 67 k);
+              stocked = rw (ne-eqb (length t) 0 z, le-ltb (length t) shortest j, lt-ltb (length t) (longest + 1) k);
               wanted = p .wanted;
               waiting = p .waiting;
             });
-        stores = length-append t (drop (length t) (replicate 66 0)) ∙ omega (arith, length-drop {A = ℕ} (length t) (replicate 66 0));
+        stores = length-append t (drop (length t) (replicate longest 0)) ∙ omega (arith, length-drop {A = ℕ} (length t) (replicate longest 0));
         holds = f .holds;
       };
       line = refl;
@@ -173,13 +177,13 @@ stored-keeps d f line rec number at m n =
 
 -- a handled telegram: noted, the answer chosen, then stored
 handled-keeps : (d : Desk) → Fine d → (lost : Bool) (number at : ℕ) (what : What) → number < 2
-    → Keeps d (withStored (marked (replyOf (notedOf d lost) what .0) number at) (telegramOf (notedOf d lost .line) (replyOf (notedOf d lost) what .1) number))
+    → Keeps d (withStored (restarted (marked (takenBy (notedOf d lost) (replyTo (notedOf d lost) what .1)) number) at) (telegramOf (notedOf d lost .line) (replyTo (notedOf d lost) what .0) number))
 handled-keeps d f noting number at what n =
     let e = notedOf d noting in
     let a = noted-keeps d f noting in
     let b = replied-keeps e (a .fine) what in
-    let p = reply-permitted e what (a .fine .holds) (fits e (a .fine)) in
-    let c = stored-keeps (replyOf e what .0) (b .fine) (e .line) (replyOf e what .1) number at p n in
+    let p = answer-permitted e (a .fine .holds) (fits e (a .fine)) what in
+    let c = stored-keeps (takenBy e (replyTo e what .1)) (b .fine) (e .line) (replyTo e what .0) number at p n in
     record { fine = c .fine; line = c .line ∙ b .line ∙ a .line }
 
 -- each call keeps a state fine, and the line
@@ -187,17 +191,17 @@ pub keeps : (d : Desk) → Fine d → (call : Call) → Keeps d (after d call .0
 unfolding faultedOf repeatedOf handledOf
 keeps d f call = go call (after d call) (does d (f .ranged) call)
   where
-    go : (call : Call) (turn : Turn) → Does d call turn → Keeps d (turn .0)
-    go call turn (refused n) = stays d f
-    go call turn noRoom = stays d f
-    go call turn (ticked {at}) = noted-keeps d f (losesLine d at)
-    go call turn (queued {rec} m q) = queued-keeps d f rec m q
-    go call turn (isSet {rec} m) = wanted-keeps d f rec m
-    go call turn (turned {key} k) = turned-keeps d f key k
-    go call turn (unmoved {at}) = noted-keeps d f (losesLine d at)
-    go call turn (faults {at} n) = noted-keeps d f (losesLine d at)
-    go call turn (repeats {at}) = noted-keeps d f (losesLine d at)
-    go call turn (handled {at} n what b) = handled-keeps d f (losesLine d at) n at what b
+    go : (call : Call) (behind : Behind) → Does d call behind → Keeps d (behind .0)
+    go call behind (barred n) = stays d f
+    go call behind noRoom = stays d f
+    go call behind (ticked {at}) = noted-keeps d f (losesLine d at)
+    go call behind (queued {rec} m q) = queued-keeps d f rec m q
+    go call behind (isSet {rec} m) = wanted-keeps d f rec m
+    go call behind (turned {key} k) = turned-keeps d f key k
+    go call behind (unmoved {at}) = noted-keeps d f (losesLine d at)
+    go call behind (faults {at} n) = noted-keeps d f (losesLine d at)
+    go call behind (repeats {at}) = noted-keeps d f (losesLine d at)
+    go call behind (handled {at} n what b) = handled-keeps d f (losesLine d at) n at what b
 
 module _ (d : Desk) (f : Fine d) where
   pub tick-keeps : (at : ℕ) → Keeps d (tickOf d at .0)
@@ -216,36 +220,36 @@ module _ (d : Desk) (f : Fine d) where
   hear-keeps at frame out = keeps d f (hears at frame out)
 
 -- the number of the refusal that a call answers, 0 where it answers none
-abbrev pub refusalOf : Answered → ℕ
-refusalOf (did done) = 0
-refusalOf (did lost) = 0
-refusalOf (did (refuses k place)) = k
-refusalOf (heard (turnsDown k place) out) = k
-refusalOf (heard (silent noted k place) out) = 0
-refusalOf (heard (faulted noted cause n) out) = 0
-refusalOf (heard (repeated n) out) = 0
-refusalOf (heard (h.handled noted origin n) out) = 0
+abbrev pub refusedBy : Answered → ℕ
+refusedBy (did done) = 0
+refusedBy (did lost) = 0
+refusedBy (did (h.refused x)) = x .number
+refusedBy (heard (h.refused x) out) = x .number
+refusedBy (heard (silent noted x) out) = 0
+refusedBy (heard (fault noted cause n) out) = 0
+refusedBy (heard (repeat n) out) = 0
+refusedBy (heard (h.handled noted origin n) out) = 0
 
 -- in its ranges a state is not refused 15
-pub not-15 : (d : Desk) → inRanges d ≡ true → (call : Call) → ¬ (refusalOf (after d call .1) ≡ 15)
+pub not-15 : (d : Desk) → inRanges d ≡ true → (call : Call) → ¬ (refusedBy (after d call .1) ≡ 15)
 unfolding faultedOf repeatedOf handledOf
 not-15 d h call = go call (after d call) (does d h call)
   where
-    go : (call : Call) (turn : Turn) → Does d call turn → ¬ (refusalOf (turn .1) ≡ 15)
-    go call turn (refused n) q = n q
-    go call turn noRoom q = omega arith
-    go call turn (ticked {at}) q = ticks-not (losesLine d at) q
+    go : (call : Call) (behind : Behind) → Does d call behind → ¬ (refusedBy (behind .1) ≡ 15)
+    go call behind (barred n) q = n q
+    go call behind noRoom q = omega arith
+    go call behind (ticked {at}) q = ticks-not (losesLine d at) q
       where
-        ticks-not : (b : Bool) → ¬ (refusalOf (did (cond b lost done)) ≡ 15)
+        ticks-not : (b : Bool) → ¬ (refusedBy (did (cond b lost done)) ≡ 15)
         ticks-not true q = omega arith
         ticks-not false q = omega arith
-    go call turn (queued m l) q = omega arith
-    go call turn (isSet m) q = omega arith
-    go call turn (turned k) q = omega arith
-    go call turn unmoved q = omega arith
-    go call turn (faults n) q = omega arith
-    go call turn repeats q = omega arith
-    go call turn (handled n what b) q = omega arith
+    go call behind (queued m l) q = omega arith
+    go call behind (isSet m) q = omega arith
+    go call behind (turned k) q = omega arith
+    go call behind unmoved q = omega arith
+    go call behind (faults n) q = omega arith
+    go call behind repeats q = omega arith
+    go call behind (handled n what b) q = omega arith
 
 -- a state behind calls, one after the other
 abbrev pub run : Desk → List Call → Desk
@@ -262,9 +266,9 @@ runs-keep d f (call ∷ calls) =
 -- the bounds of a fine state: at most 8 queued of 8 places, and at most 66 bytes kept of 66
 pub record Bounds (d : Desk) : Type 0 where
   pub few : d .queued ≤ 8
-  pub short : d .kept ≤ 66
+  pub short : d .kept ≤ longest
   pub places : length (d .queue) ≡ 8
-  pub bytes : length (d .stored) ≡ 66
+  pub bytes : length (d .stored) ≡ longest
 
 pub fine-bounds : (d : Desk) → Fine d → Bounds d
 fine-bounds d f = let p = fits d f in record { few = p .few; short = kept-most (d .good) (d .kept) (p .stocked); places = f .holds; bytes = f .stores }
@@ -274,7 +278,7 @@ pub never-15 : (line : ℕ) → isLine line ≡ true → (calls : List Call) (ca
     → (inRanges (run (startOf line .0) calls) ≡ true)
     × Bounds (run (startOf line .0) calls)
     × (run (startOf line .0) calls .line ≡ line)
-    × ¬ (refusalOf (after (run (startOf line .0) calls) call .1) ≡ 15)
+    × ¬ (refusedBy (after (run (startOf line .0) calls) call .1) ≡ 15)
 never-15 line h calls call =
     let k = runs-keep (startOf line .0) (start-fine line h) calls in
     (k .fine .ranged, fine-bounds _ (k .fine), k .line ∙ start-line line h, not-15 (run (startOf line .0) calls) (k .fine .ranged) call)

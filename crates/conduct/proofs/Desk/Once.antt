@@ -16,59 +16,64 @@ use Rattle.reading.specs.Answers as w
 use Rattle.reading.specs.Reading.{readingOf}
 use Rattle.writing.specs.Writing.{telegramOf}
 use Rattle.roundtrips.proofs.Trips.{written-reads}
-use Rattle.desk.specs.Answers.{done, lost, refuses, Origin, requested, oldest, keyed, handed, contents, notMaster, nothingSet, turnsDown, silent, faulted, repeated, handled}
+use Rattle.deciding.specs.Deciding.{What, request, poll, other}
+use Rattle.deciding.specs.Deciding as r
+use Rattle.replying.specs.Replying.{Origin, requested, queue, key, panel, contents, notMaster, nothingSet, askedOf, polledOf}
+use Rattle.replying.specs.declared.replying.Wanted.{Wanted}
+use Rattle.replying.specs.declared.replying.Wanted.the-variants.{None, Is}
+use Rattle.records.specs.Refusals.{No}
+use Rattle.desk.specs.Answers.{Done, done, lost, silent, fault, repeat, handled}
+use Rattle.desk.specs.Answers as h
 use Rattle.desk.specs.State.{blank, startOf}
 use Rattle.desk.specs.Panel.{losesLine, notedOf, withQueued}
-use Rattle.desk.specs.Rules.{What, misread, strange, request, poll, other}
-use Rattle.desk.specs.Replies.{askedOf, polledOf, replyOf}
+use Rattle.desk.specs.Queue.{oldest, replyTo}
 use Rattle.desk.specs.Hearing.{Hearing, faultedOf, repeatedOf, handledOf}
-use Rattle.desk.specs.declared.state.Slot.{Slot}
+use Rattle.desk.specs.declared.state.Waiting.{Waiting}
 use Rattle.desk.specs.declared.state.Desk.{Desk}
-use Rattle.desk.specs.declared.state.Wanted.{Wanted}
-use Rattle.desk.specs.declared.state.Wanted.the-variants.{None, Is}
-use Rattle.desk.proofs.Permitted.{reply-permitted}
+use Rattle.replying.proofs.Permitted.{reply-allowed}
+use Rattle.desk.proofs.Permitted.{oldest-replies}
 use Rattle.conduct.proofs.Desk.Waiting.{waiting, filled-behind}
-use Rattle.conduct.proofs.Desk.Steps.{Call, ticks, queues, sets, turns, hears, Answered, did, heard, Turn, hearing, after, Does, does}
+use Rattle.conduct.proofs.Desk.Steps.{Call, ticks, queues, sets, turns, hears, Answered, did, heard, Behind, hearing, after, Does, does}
 use Rattle.conduct.proofs.Desk.Steps as s
 use Rattle.conduct.proofs.Desk.Kept.{Fine, fits, keeps, run, start-fine}
 use Rattle.conduct.proofs.Desk.Polls.{Answers, polled, takes-oldest, answers-key}
 
 -- the records that wait, the oldest first
 abbrev pub records : Desk → List Record
-records d = map (λ (s : Slot). s .rec) (waiting d)
+records d = map (λ (s : Waiting). s .rec) (waiting d)
 
 -- the record that a queueing brought, where it was done
 abbrev pub queuedIn : Call → Answered → List Record
 queuedIn (ticks at) answer = []
 queuedIn (queues rec) (did done) = rec ∷ []
 queuedIn (queues rec) (did lost) = []
-queuedIn (queues rec) (did (refuses k place)) = []
+queuedIn (queues rec) (did (h.refused x)) = []
 queuedIn (queues rec) (heard told out) = []
 queuedIn (sets rec) answer = []
-queuedIn (turns key) answer = []
+queuedIn (turns position) answer = []
 queuedIn (hears at frame out) answer = []
 
 -- the record that bytes read as
 abbrev pub readIn : w.Answer → List Record
-readIn (w.accepts rec n) = rec ∷ []
-readIn (w.refuses k place) = []
+readIn (w.accepted rec n) = rec ∷ []
+readIn (w.refused x) = []
 
 -- the record that an answer from the queue reads as on the line
 abbrev pub givenBy : ℕ → Origin → List ℕ → List Record
 givenBy line requested bytes = []
-givenBy line oldest bytes = readIn (readingOf line bytes)
-givenBy line (keyed key) bytes = []
-givenBy line (handed a rec) bytes = []
-givenBy line (contents a k place) bytes = []
+givenBy line queue bytes = readIn (readingOf line bytes)
+givenBy line (key b) bytes = []
+givenBy line (panel a rec) bytes = []
+givenBy line (contents a x) bytes = []
 givenBy line (notMaster a) bytes = []
 givenBy line (nothingSet a) bytes = []
 
 abbrev pub givenIn : ℕ → Answered → List Record
 givenIn line (did x) = []
-givenIn line (heard (turnsDown k place) out) = []
-givenIn line (heard (silent noting k place) out) = []
-givenIn line (heard (faulted noting cause n) out) = []
-givenIn line (heard (repeated n) out) = []
+givenIn line (heard (h.refused x) out) = []
+givenIn line (heard (silent noting x) out) = []
+givenIn line (heard (fault noting cause n) out) = []
+givenIn line (heard (repeat n) out) = []
 givenIn line (heard (handled noting origin n) out) = givenBy line origin (take n out)
 
 -- the records that calls queued, and those that they gave out from the queue, in order
@@ -81,16 +86,16 @@ given d [] = []
 given d (call ∷ calls) = givenIn (d .line) (after d call .1) ++ given (after d call .0) calls
 
 -- what waits and what is queued is what is given and what waits then
-abbrev Balanced : Desk → Call → Turn → Type 0
+abbrev Balanced : Desk → Call → Behind → Type 0
 Balanced d call turn = records d ++ queuedIn call (turn .1) ≡ givenIn (d .line) (turn .1) ++ records (turn .0)
 
 module _ (d : Desk) (f : Fine d) where
-  none-refused : (call : Call) (k place : ℕ) → Balanced d call (d, did (refuses k place))
-  none-refused (ticks at) k place = append-nil (records d)
-  none-refused (queues rec) k place = append-nil (records d)
-  none-refused (sets rec) k place = append-nil (records d)
-  none-refused (turns key) k place = append-nil (records d)
-  none-refused (hears at frame out) k place = append-nil (records d)
+  none-refused : (call : Call) (x : No) → Balanced d call (d, did (Done.refused x))
+  none-refused (ticks at) x = append-nil (records d)
+  none-refused (queues rec) x = append-nil (records d)
+  none-refused (sets rec) x = append-nil (records d)
+  none-refused (turns position) x = append-nil (records d)
+  none-refused (hears at frame out) x = append-nil (records d)
 
   noted-waits : (b : Bool) → records d ++ [] ≡ records (notedOf d b)
   unfolding notedOf
@@ -100,34 +105,33 @@ module _ (d : Desk) (f : Fine d) where
   one-queued : (rec : Record) → d .queued < 8 → Balanced d (queues rec) (withQueued d rec, did done)
   one-queued rec q =
       let e = filled-behind (d .queue) (d .queued) (record { rec = rec }) (omega (arith, f .holds)) in
-      sym (ap (map (λ (s : Slot). s .rec)) e ∙ map-append (λ (s : Slot). s .rec) (waiting d) (record { rec = rec } ∷ []))
+      sym (ap (map (λ (s : Waiting). s .rec)) e ∙ map-append (λ (s : Waiting). s .rec) (waiting d) (record { rec = rec } ∷ []))
 
   -- an answer from the queue, by which the first that waits leaves
-  one-given : (at n : ℕ) (frame out : List ℕ) (b : Bool) (slot : Slot) (h : Hearing) → n < 2 → permitsRecord (d .line) (slot .rec) ≡ true
-      → waiting d ≡ slot ∷ waiting (h .0) → Answers (d .line) (slot .rec) n b oldest out h → Balanced d (hears at frame out) (hearing h)
-  one-given at n frame out b slot h l p e a =
-      let t = telegramOf (d .line) (slot .rec) n in
-      rw (e, a .0, a .1, take-append-seam t (drop (length t) out), written-reads (d .line) (slot .rec) n p l) (append-nil (slot .rec ∷ records (h .0)))
+  one-given : (at n : ℕ) (frame out : List ℕ) (b : Bool) (first : Waiting) (h : Hearing) → n < 2 → permitsRecord (d .line) (first .rec) ≡ true
+      → waiting d ≡ first ∷ waiting (h .0) → Answers (d .line) (first .rec) n b queue out h → Balanced d (hears at frame out) (hearing h)
+  one-given at n frame out b first h l p e a =
+      let t = telegramOf (d .line) (first .rec) n in
+      rw (e, a .0, a .1, take-append-seam t (drop (length t) out), written-reads (d .line) (first .rec) n p l) (append-nil (first .rec ∷ records (h .0)))
 
   -- an answer with the key position, where none waits
-  none-given : (at n : ℕ) (frame out : List ℕ) (b : Bool) (rec : Record) (key : ℕ) (h : Hearing)
-      → waiting d ≡ [] → waiting (h .0) ≡ [] → Answers (d .line) rec n b (keyed key) out h → Balanced d (hears at frame out) (hearing h)
-  none-given at n frame out b rec key h e g a = rw (e, g, a .0)
+  none-given : (at n : ℕ) (frame out : List ℕ) (b : Bool) (rec : Record) (position : ℕ) (h : Hearing)
+      → waiting d ≡ [] → waiting (h .0) ≡ [] → Answers (d .line) rec n b (key position) out h → Balanced d (hears at frame out) (hearing h)
+  none-given at n frame out b rec position h e g a = rw (e, g, a .0)
 
-  oldest-permitted : ¬ (d .queued ≡ 0) → permitsRecord (d .line) (getD (d .queue) 0 blank .rec) ≡ true
-  unfolding polledOf
-  oldest-permitted q = rw (ne-eqb (d .queued) 0 q) at (reply-permitted d poll (f .holds) (fits d f))
+  oldest-permitted : ¬ (d .queued ≡ 0) → permitsRecord (d .line) (oldest d) ≡ true
+  oldest-permitted q = reply-allowed (d .line) (oldest d) (oldest-replies d (f .holds) (fits d f) q)
 
   module _ (b : Bool) (at n : ℕ) (l : n < 2) (frame out : List ℕ) where
-    asked-balanced : (w : Wanted) → Balanced d (hears at frame out) (hearing (handledOf (notedOf d b) b at n (askedOf (notedOf d b) w) out))
+    asked-balanced : (w : Wanted) → Balanced d (hears at frame out) (hearing (handledOf (notedOf d b) b at n (askedOf w) out))
     unfolding handledOf
     asked-balanced None = noted-waits b
     asked-balanced (Is rec) = noted-waits b
 
-    handled-balanced : (what : What) → Balanced d (hears at frame out) (hearing (handledOf (notedOf d b) b at n (replyOf (notedOf d b) what) out))
+    handled-balanced : (what : What) → Balanced d (hears at frame out) (hearing (handledOf (notedOf d b) b at n (replyTo (notedOf d b) what) out))
     unfolding handledOf
-    handled-balanced (misread number place) = noted-waits b
-    handled-balanced strange = noted-waits b
+    handled-balanced (r.contents x) = noted-waits b
+    handled-balanced r.notMaster = noted-waits b
     handled-balanced request = asked-balanced (notedOf d b .requested)
     handled-balanced poll =
         on-test (eqb (d .queued) 0)
@@ -142,8 +146,8 @@ module _ (d : Desk) (f : Fine d) where
   unfolding faultedOf repeatedOf
   balanced call = go call (after d call) (does d (f .ranged) call)
     where
-      go : (call : Call) (turn : Turn) → Does d call turn → Balanced d call turn
-      go call turn (s.refused {k = k} {place = place} n) = none-refused call k place
+      go : (call : Call) (turn : Behind) → Does d call turn → Balanced d call turn
+      go call turn (s.barred {x = x} n) = none-refused call x
       go call turn s.noRoom = append-nil (records d)
       go call turn (s.ticked {at}) = noted-waits (losesLine d at)
       go call turn (s.queued {rec} m q) = one-queued rec q

@@ -14,20 +14,25 @@ use Rattle.forms.specs.Forms.{isLine, byMaster, forms, onLine, lookIn, formOf}
 use Rattle.records.specs.Records.{typeOf}
 use Rattle.records.specs.declared.records.Record.{Record}
 use Rattle.records.specs.declared.records.Record.the-variants.{Approved}
-use Rattle.reading.specs.Answers.{Answer, accepts, refuses}
+use Rattle.records.specs.Refusals.{No}
+use Rattle.reading.specs.Answers.{Answer, accepted}
+use Rattle.reading.specs.Answers as w
 use Rattle.reading.specs.Reading.{readingOf}
-use Rattle.writing.specs.Writing.{telegramOf}
-use Rattle.desk.specs.Answers.{Origin, oldest, keyed, handled}
+use Rattle.writing.specs.Writing.{telegramOf, sentOf}
+use Rattle.clock.specs.Room.{longest}
+use Rattle.clock.specs.Counters.{isNumber, numberIn}
+use Rattle.deciding.specs.Deciding.{Ruling, silent, fault, repeat, handle, What, contents, notMaster, request, poll, other, repeats, matterIn, goodFrame, badFrame, ruledBy, rulingIn}
+use Rattle.deciding.proofs.Rulings.{a-poll, good-handled, when-accepted}
+use Rattle.replying.specs.Replying.{Origin, queue, key, askedOf, keyOn, polledOf}
+use Rattle.replying.specs.declared.replying.Wanted.{Wanted}
+use Rattle.replying.specs.declared.replying.Wanted.the-variants.{None, Is}
+use Rattle.desk.specs.Answers.{handled}
 use Rattle.desk.specs.State.{blank}
 use Rattle.desk.specs.Panel.{losesLine, notedOf}
-use Rattle.desk.specs.Rules.{Ruling, quiet, wrongSum, again, What, misread, strange, request, poll, other, handles, isNumber, repeats, matterIn, goodFrame, badFrame, ruledBy, rulingIn}
-use Rattle.desk.specs.Replies.{shifted, askedOf, keyOn, polledOf, replyOf}
-use Rattle.desk.specs.Hearing.{Hearing, sentOf, faultedOf, repeatedOf, handledOf, appliedOf, hearOf}
-use Rattle.desk.specs.declared.state.Slot.{Slot}
+use Rattle.desk.specs.Queue.{oldest, replyTo, shifted, takenBy}
+use Rattle.desk.specs.Hearing.{Hearing, faultedOf, repeatedOf, handledOf, appliedOf, ruling, hearOf}
+use Rattle.desk.specs.declared.state.Waiting.{Waiting}
 use Rattle.desk.specs.declared.state.Desk.{Desk}
-use Rattle.desk.specs.declared.state.Wanted.{Wanted}
-use Rattle.desk.specs.declared.state.Wanted.the-variants.{None, Is}
-use Rattle.desk.proofs.Rulings.{a-poll, good-handled, when-accepted}
 use Rattle.conduct.proofs.Desk.Waiting.{waiting, oldest-taken, oldest-first}
 use Rattle.desk.proofs.Sendings.{hear-room, hear-applied}
 use Rattle.conduct.proofs.Desk.Steps.{never, noted}
@@ -45,15 +50,15 @@ Same d e = (e .queued ≡ d .queued) × (e .queue ≡ d .queue)
 -- a poll heard, after the first rule
 module _ (d : Desk) (f : Fine d) (at n : ℕ) (out : List ℕ) where
   abbrev pub polled : Bool → Hearing
-  polled b = handledOf (notedOf d b) b at n (replyOf (notedOf d b) poll) out
+  polled b = handledOf (notedOf d b) b at n (replyTo (notedOf d b) poll) out
 
   oldest-leaves : ¬ (d .queued ≡ 0) → waiting d ≡ getD (d .queue) 0 blank ∷ take (d .queued - 1) (shifted (d .queue))
   oldest-leaves q =
       oldest-first (d .queue) (d .queued) (f .holds) (omega arith)
-      ∙ ap (λ (x : List Slot). getD (d .queue) 0 blank ∷ x) (sym (oldest-taken (d .queue) (d .queued) (f .holds) (fits d f .few)))
+      ∙ ap (λ (x : List Waiting). getD (d .queue) 0 blank ∷ x) (sym (oldest-taken (d .queue) (d .queued) (f .holds) (fits d f .few)))
 
   pub takes-oldest : (b : Bool) → ¬ (d .queued ≡ 0)
-      → (waiting d ≡ getD (d .queue) 0 blank ∷ waiting (polled b .0)) × Answers (d .line) (getD (d .queue) 0 blank .rec) n b oldest out (polled b)
+      → (waiting d ≡ getD (d .queue) 0 blank ∷ waiting (polled b .0)) × Answers (d .line) (oldest d) n b queue out (polled b)
   unfolding handledOf sentOf polledOf notedOf
   takes-oldest true q = rw (ne-eqb (d .queued) 0 q) (oldest-leaves q, (refl, refl))
   takes-oldest false q = rw (ne-eqb (d .queued) 0 q) (oldest-leaves q, (refl, refl))
@@ -61,19 +66,19 @@ module _ (d : Desk) (f : Fine d) (at n : ℕ) (out : List ℕ) where
   none-wait : d .queued ≡ 0 → waiting d ≡ []
   none-wait q = ap (λ (k : ℕ). take k (d .queue)) q
 
-  pub answers-key : (b : Bool) → d .queued ≡ 0 → (waiting d ≡ []) × (waiting (polled b .0) ≡ []) × Answers (d .line) (Approved (keyOn d)) n b (keyed (keyOn d)) out (polled b)
+  pub answers-key : (b : Bool) → d .queued ≡ 0 → (waiting d ≡ []) × (waiting (polled b .0) ≡ []) × Answers (d .line) (Approved (keyOn (d .line) (d .key))) n b (key (keyOn (d .line) (d .key))) out (polled b)
   unfolding handledOf sentOf polledOf notedOf keyOn
   answers-key true q = rw (eq-eqb (d .queued) 0 q) (none-wait q, none-wait q, (refl, refl))
   answers-key false q = rw (eq-eqb (d .queued) 0 q) (none-wait q, none-wait q, (refl, refl))
 
 -- the key position on line 3, A else
-pub key-on-3 : (d : Desk) → d .line ≡ 3 → keyOn d ≡ d .key
+pub key-on-3 : (line position : ℕ) → line ≡ 3 → keyOn line position ≡ position
 unfolding keyOn
-key-on-3 d h = rw (eq-eqb (d .line) 3 h)
+key-on-3 line position h = rw (eq-eqb line 3 h)
 
-pub key-elsewhere : (d : Desk) → ¬ (d .line ≡ 3) → keyOn d ≡ code "A"
+pub key-elsewhere : (line position : ℕ) → ¬ (line ≡ 3) → keyOn line position ≡ code "A"
 unfolding keyOn
-key-elsewhere d h = rw (ne-eqb (d .line) 3 h)
+key-elsewhere line position h = rw (ne-eqb line 3 h)
 
 -- the first rule leaves the queue as it was
 noted-queue : (d : Desk) (b : Bool) → Same d (notedOf d b)
@@ -82,64 +87,64 @@ noted-queue d true = (refl, refl)
 noted-queue d false = (refl, refl)
 
 -- so does the answer to any other telegram
-reply-queue : (d : Desk) (what : What) → ¬ (what ≡ poll) → Same d (replyOf d what .0)
-reply-queue d (misread number place) h = (refl, refl)
-reply-queue d strange h = (refl, refl)
+reply-queue : (d : Desk) (what : What) → ¬ (what ≡ poll) → Same d (takenBy d (replyTo d what .1))
+reply-queue d (contents x) h = (refl, refl)
+reply-queue d notMaster h = (refl, refl)
 reply-queue d request h = asked (d .requested)
   where
-    asked : (w : Wanted) → Same d (askedOf d w .0)
+    asked : (w : Wanted) → Same d (takenBy d (askedOf w .1))
     asked None = (refl, refl)
     asked (Is rec) = (refl, refl)
 reply-queue d poll h = absurd (h refl)
 reply-queue d (other rec) h = (refl, refl)
 
-ruled-queue : (d : Desk) (b : Bool) (at : ℕ) (r : Ruling) (out : List ℕ) → ((n : ℕ) → ¬ (r ≡ handles n poll)) → Same d (appliedOf d b at r out .0)
+ruled-queue : (d : Desk) (b : Bool) (at : ℕ) (r : Ruling) (out : List ℕ) → ((n : ℕ) → ¬ (r ≡ handle n poll)) → Same d (appliedOf d b at r out .0)
 unfolding faultedOf repeatedOf handledOf
-ruled-queue d b at (quiet number place) out h = (refl, refl)
-ruled-queue d b at (wrongSum n) out h = (refl, refl)
-ruled-queue d b at again out h = (refl, refl)
-ruled-queue d b at (handles n what) out h = reply-queue d what (λ e. h n (ap (handles n) e))
+ruled-queue d b at (silent x) out h = (refl, refl)
+ruled-queue d b at (fault x n) out h = (refl, refl)
+ruled-queue d b at (repeat n what) out h = (refl, refl)
+ruled-queue d b at (handle n what) out h = reply-queue d what (λ e. h n (ap (handle n) e))
 
 -- only a frame read as t polls
-module _ (d : Desk) (n : ℕ) where
-  good-poll : (number : ℕ) (what : What) → goodFrame d number what ≡ handles n poll → (number ≡ n) × (what ≡ poll)
+module _ (line : ℕ) (good : Bool) (last n : ℕ) where
+  good-poll : (number : ℕ) (what : What) → goodFrame good last number what ≡ handle n poll → (number ≡ n) × (what ≡ poll)
   unfolding goodFrame
-  good-poll number what e = go (repeats d number) e
+  good-poll number what e = go (repeats good last number) e
     where
-      go : (b : Bool) → cond b again (handles number what) ≡ handles n poll → (number ≡ n) × (what ≡ poll)
+      go : (b : Bool) → cond b (repeat number what) (handle number what) ≡ handle n poll → (number ≡ n) × (what ≡ poll)
       go true e = never (cc)
       go false e = (cc, cc)
 
-  matter-poll : (rec : Record) → matterIn (d .line) rec ≡ poll → typeOf rec ≡ code "t"
+  matter-poll : (rec : Record) → matterIn line rec ≡ poll → typeOf rec ≡ code "t"
   unfolding matterIn
-  matter-poll rec e = go (byMaster (d .line) (typeOf rec)) (eqb (typeOf rec) (code "r")) (eqb (typeOf rec) (code "t")) (eqb-true (typeOf rec) (code "t")) e
+  matter-poll rec e = go (byMaster line (typeOf rec)) (eqb (typeOf rec) (code "r")) (eqb (typeOf rec) (code "t")) (eqb-true (typeOf rec) (code "t")) e
     where
-      go : (m r t : Bool) → (t ≡ true → typeOf rec ≡ code "t") → cond m (cond r request (cond t poll (other rec))) strange ≡ poll → typeOf rec ≡ code "t"
+      go : (m r t : Bool) → (t ≡ true → typeOf rec ≡ code "t") → cond m (cond r request (cond t poll (other rec))) notMaster ≡ poll → typeOf rec ≡ code "t"
       go true true t k e = never (cc)
       go true false true k e = k refl
       go true false false k e = never (cc)
       go false r t k e = never (cc)
 
-  bad-poll : {A : Type 0} (number place byte : ℕ) → badFrame d number place byte ≡ handles n poll → A
+  bad-poll : {A : Type 0} (x : No) (byte : ℕ) → badFrame good last x byte ≡ handle n poll → A
   unfolding badFrame
-  bad-poll {A} number place byte e = go (eqb number 6) (isNumber byte) (from 8 11 number) e
+  bad-poll {A} x byte e = go (eqb (x .number) 6) (isNumber byte) (from 8 11 (x .number)) e
     where
       go : (a b c : Bool)
-          → cond a (cond b (wrongSum (byte - code "0")) (quiet number place)) (cond c (goodFrame d (byte - code "0") (misread number place)) (quiet number place)) ≡ handles n poll
+          → cond a (cond b (fault x (numberIn byte)) (silent x)) (cond c (goodFrame good last (numberIn byte) (contents x)) (silent x)) ≡ handle n poll
           → A
       go true true c e = never (cc)
       go true false c e = never (cc)
-      go false b true e = let z = good-poll (byte - code "0") (misread number place) e .1 in never (cc)
+      go false b true e = let z = good-poll (numberIn byte) (contents x) e .1 in never (cc)
       go false b false e = never (cc)
 
   -- A handled t is a frame that reads as t with that number.
-  pub polls-by-t : (frame : List ℕ) → rulingIn d frame ≡ handles n poll → (rec : Record) × (readingOf (d .line) frame ≡ accepts rec n) × (typeOf rec ≡ code "t")
+  pub polls-by-t : (frame : List ℕ) → rulingIn line good last frame ≡ handle n poll → (rec : Record) × (readingOf line frame ≡ accepted rec n) × (typeOf rec ≡ code "t")
   unfolding rulingIn
-  polls-by-t frame e = go (readingOf (d .line) frame) e
+  polls-by-t frame e = go (readingOf line frame) e
     where
-      go : (a : Answer) → ruledBy d (getD frame 4 0) a ≡ handles n poll → (rec : Record) × (a ≡ accepts rec n) × (typeOf rec ≡ code "t")
-      go (accepts rec k) e = let q = good-poll k (matterIn (d .line) rec) e in (rec, ap (accepts rec) (q .0), matter-poll rec (q .1))
-      go (refuses number place) e = bad-poll number place (getD frame 4 0) e
+      go : (a : Answer) → ruledBy line good last (getD frame 4 0) a ≡ handle n poll → (rec : Record) × (a ≡ accepted rec n) × (typeOf rec ≡ code "t")
+      go (accepted rec k) e = let q = good-poll k (matterIn line rec) e in (rec, ap (accepted rec) (q .0), matter-poll rec (q .1))
+      go (w.refused x) e = bad-poll x (getD frame 4 0) e
 
 -- the master sends t on each line
 t-sent : (line : ℕ) → isLine line ≡ true → byMaster line (code "t") ≡ true
@@ -147,35 +152,35 @@ unfolding forms onLine lookIn formOf
 t-sent line h = from-passes (λ (l : ℕ). byMaster l (code "t")) 1 3 line refl h
 
 -- And such a frame is a handled t, where it is no repeat.
-pub t-polls : (d : Desk) → Fine d → (frame : List ℕ) (rec : Record) (n : ℕ) → readingOf (d .line) frame ≡ accepts rec n → typeOf rec ≡ code "t" → repeats d n ≡ false
-    → rulingIn d frame ≡ handles n poll
-t-polls d f frame rec n r t h =
-    let m = a-poll (d .line) rec (code "t") (sym t) (t-sent (d .line) (fits d f .lined)) (λ q. omega arith) refl in
-    sym (ap (handles n) m ∙ good-handled d n (matterIn (d .line) rec) h ∙ when-accepted d frame rec n (sym r))
+pub t-polls : (line : ℕ) (good : Bool) (last : ℕ) → isLine line ≡ true → (frame : List ℕ) (rec : Record) (n : ℕ) → readingOf line frame ≡ accepted rec n → typeOf rec ≡ code "t"
+    → repeats good last n ≡ false → rulingIn line good last frame ≡ handle n poll
+t-polls line good last l frame rec n r t h =
+    let m = a-poll line rec (code "t") (sym t) (t-sent line l) (λ q. omega arith) refl in
+    sym (ap (handle n) m ∙ good-handled good last n (matterIn line rec) h ∙ when-accepted line good last frame rec n (sym r))
 
 module _ (d : Desk) (f : Fine d) (at : ℕ) (frame out : List ℕ) where
-  module _ (room : 66 ≤ length out) (n : ℕ) where
-    by-reply : (what : What) → rulingIn (noted d at) frame ≡ handles n what → handledOf (noted d at) (losesLine d at) at n (replyOf (noted d at) what) out ≡ hearOf d at frame out
-    by-reply what e = hear-applied d at frame out (f .ranged) room (losesLine d at) refl (noted d at) refl (handles n what) (sym e)
+  module _ (room : longest ≤ length out) (n : ℕ) where
+    by-reply : (what : What) → ruling (noted d at) frame ≡ handle n what → handledOf (noted d at) (losesLine d at) at n (replyTo (noted d at) what) out ≡ hearOf d at frame out
+    by-reply what e = hear-applied d at frame out (f .ranged) room (losesLine d at) refl (noted d at) refl (handle n what) (sym e)
 
     -- A handled t with records queued is answered with the oldest, which leaves the queue; the others stay in their order.
-    pub poll-oldest : rulingIn (noted d at) frame ≡ handles n poll → ¬ (d .queued ≡ 0)
+    pub poll-oldest : ruling (noted d at) frame ≡ handle n poll → ¬ (d .queued ≡ 0)
         → (waiting d ≡ getD (d .queue) 0 blank ∷ waiting (hearOf d at frame out .0))
-        × Answers (d .line) (getD (d .queue) 0 blank .rec) n (losesLine d at) oldest out (hearOf d at frame out)
+        × Answers (d .line) (oldest d) n (losesLine d at) queue out (hearOf d at frame out)
     poll-oldest e q = rw (← (by-reply poll e)) (takes-oldest d f at n out (losesLine d at) q)
 
     -- With an empty queue nothing leaves, and the answer is A: with the key position on line 3, with A else.
-    pub poll-empty : rulingIn (noted d at) frame ≡ handles n poll → d .queued ≡ 0
-        → (waiting d ≡ []) × (waiting (hearOf d at frame out .0) ≡ []) × Answers (d .line) (Approved (keyOn d)) n (losesLine d at) (keyed (keyOn d)) out (hearOf d at frame out)
+    pub poll-empty : ruling (noted d at) frame ≡ handle n poll → d .queued ≡ 0
+        → (waiting d ≡ []) × (waiting (hearOf d at frame out .0) ≡ []) × Answers (d .line) (Approved (keyOn (d .line) (d .key))) n (losesLine d at) (key (keyOn (d .line) (d .key))) out (hearOf d at frame out)
     poll-empty e q = rw (← (by-reply poll e)) (answers-key d f at n out (losesLine d at) q)
 
   -- Any other hearing leaves the queue as it was: a telegram of another type, a repeat, a silent one.
-  pub others-leave : ((n : ℕ) → ¬ (rulingIn (noted d at) frame ≡ handles n poll)) → Same d (hearOf d at frame out .0)
+  pub others-leave : ((n : ℕ) → ¬ (ruling (noted d at) frame ≡ handle n poll)) → Same d (hearOf d at frame out .0)
   others-leave h =
-      on-test (leb 66 (length out))
+      on-test (leb longest (length out))
       (λ b.
-      let e = hear-applied d at frame out (f .ranged) (leb-true 66 (length out) b) (losesLine d at) refl (noted d at) refl (rulingIn (noted d at) frame) refl in
+      let e = hear-applied d at frame out (f .ranged) (leb-true longest (length out) b) (losesLine d at) refl (noted d at) refl (ruling (noted d at) frame) refl in
       let x = noted-queue d (losesLine d at) in
-      let y = ruled-queue (noted d at) (losesLine d at) at (rulingIn (noted d at) frame) out h in
+      let y = ruled-queue (noted d at) (losesLine d at) at (ruling (noted d at) frame) out h in
       rw (← e) (y .0 ∙ x .0, y .1 ∙ x .1))
-      (λ b. rw (← (hear-room d at frame out (f .ranged) (leb-false 66 (length out) b))) (refl, refl))
+      (λ b. rw (← (hear-room d at frame out (f .ranged) (leb-false longest (length out) b))) (refl, refl))

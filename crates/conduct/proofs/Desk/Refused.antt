@@ -6,30 +6,33 @@ use Prim.Native.Nat.{ℕ}
 use lib.Dec.{leb, ltb}
 use lib.ListN.{length}
 use Rattle.records.specs.declared.records.Record.{Record}
-use Rattle.reading.specs.Answers.{Fault, good, fault}
-use Rattle.desk.specs.Answers.{Done, done, lost, refuses, turnsDown}
+use Rattle.reading.specs.Answers.{Fault, good, fails}
+use Rattle.records.specs.Refusals.{no}
+use Rattle.clock.specs.Room.{longest}
+use Rattle.deciding.specs.Deciding.{Ruling}
+use Rattle.deciding.specs.Deciding as r
+use Rattle.desk.specs.Answers.{Done, done, lost, Told}
 use Rattle.desk.specs.State.{inRanges}
 use Rattle.desk.specs.Panel.{losesLine, withQueued, recordFault, faultless, keyFault, tickOf, queueOf, setOf, keyOf}
-use Rattle.desk.specs.Rules.{Ruling, quiet, wrongSum, again, handles, rulingIn}
-use Rattle.desk.specs.Hearing.{Hearing, faultedOf, repeatedOf, handledOf, appliedOf, heardOf, hearOf}
+use Rattle.desk.specs.Hearing.{Hearing, faultedOf, repeatedOf, handledOf, appliedOf, ruling, heardOf, hearOf}
 use Rattle.desk.specs.declared.state.Desk.{Desk}
 use Rattle.conduct.proofs.Desk.Steps.{did, heard, noted}
-use Rattle.conduct.proofs.Desk.Kept.{refusalOf}
+use Rattle.conduct.proofs.Desk.Kept.{refusedBy}
 
 module _ (d : Desk) where
   -- a call that hears nothing
   abbrev Same : Desk × Done → Type 0
-  Same s = ¬ (refusalOf (did (s .1)) ≡ 0) → s .0 ≡ d
+  Same s = ¬ (refusedBy (did (s .1)) ≡ 0) → s .0 ≡ d
 
   unless-fault : (f : Fault) (s : Desk × Done) → Same s → Same (faultless f d s)
   unless-fault good s k = k
-  unless-fault (fault number place) s k = λ n. refl
+  unless-fault (fails x) s k = λ n. refl
 
   pub tick-refused-same : (at : ℕ) → Same (tickOf d at)
   unfolding tickOf
   tick-refused-same at = go (inRanges d) (losesLine d at)
     where
-      go : (r l : Bool) → Same (cond r (noted d at, cond l lost done) (d, refuses 15 0))
+      go : (r l : Bool) → Same (cond r (noted d at, cond l lost done) (d, Done.refused (no 15 0)))
       go true true n = absurd (n refl)
       go true false n = absurd (n refl)
       go false l n = refl
@@ -38,7 +41,7 @@ module _ (d : Desk) where
   unfolding queueOf
   queue-refused-same rec = unless-fault (recordFault d rec) _ (go (ltb (d .queued) 8))
     where
-      go : (b : Bool) → Same (cond b (withQueued d rec, done) (d, refuses 17 0))
+      go : (b : Bool) → Same (cond b (withQueued d rec, done) (d, Done.refused (no 17 0)))
       go true n = absurd (n refl)
       go false n = refl
 
@@ -53,20 +56,20 @@ module _ (d : Desk) where
   -- a hearing, with its output
   module _ (at : ℕ) (frame out : List ℕ) where
     abbrev Unheard : Hearing → Type 0
-    Unheard h = ¬ (refusalOf (heard (h .1) (h .2)) ≡ 0) → (h .0 ≡ d) × (h .2 ≡ out)
+    Unheard h = ¬ (refusedBy (heard (h .1) (h .2)) ≡ 0) → (h .0 ≡ d) × (h .2 ≡ out)
 
     ruled : (r : Ruling) → Unheard (appliedOf (noted d at) (losesLine d at) at r out)
     unfolding faultedOf repeatedOf handledOf
-    ruled (quiet number place) n = absurd (n refl)
-    ruled (wrongSum k) n = absurd (n refl)
-    ruled again n = absurd (n refl)
-    ruled (handles k what) n = absurd (n refl)
+    ruled (r.silent x) n = absurd (n refl)
+    ruled (r.fault x k) n = absurd (n refl)
+    ruled (r.repeat k what) n = absurd (n refl)
+    ruled (r.handle k what) n = absurd (n refl)
 
     pub hear-refused-same : Unheard (hearOf d at frame out)
     unfolding hearOf heardOf
-    hear-refused-same = go (inRanges d) (leb 66 (length out))
+    hear-refused-same = go (inRanges d) (leb longest (length out))
       where
-        go : (r l : Bool) → Unheard (cond r (cond l (appliedOf (noted d at) (losesLine d at) at (rulingIn (noted d at) frame) out) (d, turnsDown 14 0, out)) (d, turnsDown 15 0, out))
-        go true true n = ruled (rulingIn (noted d at) frame) n
+        go : (r l : Bool) → Unheard (cond r (cond l (appliedOf (noted d at) (losesLine d at) at (ruling (noted d at) frame) out) (d, Told.refused (no 14 0), out)) (d, Told.refused (no 15 0), out))
+        go true true n = ruled (ruling (noted d at) frame) n
         go true false n = (refl, refl)
         go false l n = (refl, refl)

@@ -1,8 +1,9 @@
 -- Calls of the desk in any order, with any inputs, and what each can do in its ranges (01 'Link rules', 'Desk'). Assumes nothing.
-use mathlib.Core.Path.{_≡_, refl}
+use mathlib.Core.Path.{_≡_, refl, ap, _∙_}
 use mathlib.Core.Bool.{Bool, true, false, cond}
 use mathlib.Core.List.{List}
 use Prim.Native.Nat.{ℕ, _<_}
+use Prim.Native.Char.{code}
 use native.Mathlib.Omega.{arith}
 use lib.Dec.{eqb, leb, ltb}
 use lib.ListN.{length}
@@ -10,18 +11,22 @@ use borrow.Author.Tests.{ltb-true}
 use Rattle.laws.specs.Truth.{both}
 use Rattle.laws.proofs.Passes.{on-test}
 use Rattle.forms.specs.Forms.{dataType}
+use Rattle.records.specs.Refusals.{No, no}
 use Rattle.records.specs.Records.{typeOf}
 use Rattle.records.specs.declared.records.Record.{Record}
 use Rattle.values.specs.Values.{permitsRecord}
-use Rattle.reading.specs.Answers.{Fault, good, fault}
-use Rattle.desk.specs.Answers.{Done, done, lost, refuses, Told, turnsDown, silent}
-use Rattle.desk.specs.State.{isKey, mayReply, keyFits, inRanges}
+use Rattle.reading.specs.Answers.{Fault, good, fails}
+use Rattle.clock.specs.Room.{longest}
+use Rattle.deciding.specs.Deciding.{What, Ruling, answersWith}
+use Rattle.deciding.specs.Deciding as r
+use Rattle.deciding.proofs.Numbers.{ruling-number}
+use Rattle.replying.specs.Fitting.{isKey, mayReply, keyFits}
+use Rattle.desk.specs.Answers.{Done, done, lost, Told, silent}
+use Rattle.desk.specs.State.{inRanges}
 use Rattle.desk.specs.Panel.{losesLine, notedOf, withQueued, withRequested, withKey, recordFault, faultless, keyFault, tickOf, queueOf, setOf, keyOf}
-use Rattle.desk.specs.Rules.{What, Ruling, quiet, wrongSum, again, handles, rulingIn, numberIn}
-use Rattle.desk.specs.Replies.{replyOf}
-use Rattle.desk.specs.Hearing.{Hearing, faultedOf, repeatedOf, handledOf, appliedOf, heardOf, hearOf}
+use Rattle.desk.specs.Queue.{replyTo}
+use Rattle.desk.specs.Hearing.{Hearing, faultedOf, repeatedOf, handledOf, appliedOf, ruling, heardOf, hearOf}
 use Rattle.desk.specs.declared.state.Desk.{Desk}
-use Rattle.desk.proofs.Numbers.{ruling-number}
 
 -- two answers of different kinds are never equal
 pub never : {A : Type 0} → _≡_ {A = ℕ} 0 1 → A
@@ -41,17 +46,17 @@ pub data Answered : Type 0 where
   heard : Told → List ℕ → Answered
 
 -- the state behind a call, and what it answers
-abbrev pub Turn : Type 0
-Turn = Desk × Answered
+abbrev pub Behind : Type 0
+Behind = Desk × Answered
 
-abbrev pub saying : Desk × Done → Turn
+abbrev pub saying : Desk × Done → Behind
 saying s = (s .0, did (s .1))
 
-abbrev pub hearing : Hearing → Turn
+abbrev pub hearing : Hearing → Behind
 hearing h = (h .0, heard (h .1) (h .2))
 
 -- what a call makes of the state
-abbrev pub after : Desk → Call → Turn
+abbrev pub after : Desk → Call → Behind
 after d (ticks at) = saying (tickOf d at)
 after d (queues rec) = saying (queueOf d rec)
 after d (sets rec) = saying (setOf d rec)
@@ -63,39 +68,43 @@ abbrev pub noted : Desk → ℕ → Desk
 noted d at = notedOf d (losesLine d at)
 
 -- what a call can do to a state in its ranges
-pub data Does (d : Desk) : Call → Turn → Type 0 where
+pub data Does (d : Desk) : Call → Behind → Type 0 where
   -- refused, but not 15
-  refused : {call : Call} {k place : ℕ} → ¬ (k ≡ 15) → Does d call (d, did (refuses k place))
+  barred : {call : Call} {x : No} → ¬ (x .number ≡ 15) → Does d call (d, did (Done.refused x))
   -- under 66 bytes of room
-  noRoom : {at : ℕ} {frame out : List ℕ} → Does d (hears at frame out) (d, heard (turnsDown 14 0) out)
+  noRoom : {at : ℕ} {frame out : List ℕ} → Does d (hears at frame out) (d, heard (Told.refused (no 14 0)) out)
   ticked : {at : ℕ} → Does d (ticks at) (noted d at, did (cond (losesLine d at) lost done))
   queued : {rec : Record} → mayReply (d .line) rec ≡ true → d .queued < 8 → Does d (queues rec) (withQueued d rec, did done)
   isSet : {rec : Record} → mayReply (d .line) rec ≡ true → Does d (sets rec) (withRequested d rec, did done)
   turned : {key : ℕ} → keyFits (d .line) key ≡ true → Does d (turns key) (withKey d key, did done)
   -- a hearing by each rule
-  unmoved : {at : ℕ} {frame out : List ℕ} {number place : ℕ} → Does d (hears at frame out) (noted d at, heard (silent (losesLine d at) number place) out)
+  unmoved : {at : ℕ} {frame out : List ℕ} {x : No} → Does d (hears at frame out) (noted d at, heard (silent (losesLine d at) x) out)
   faults : {at : ℕ} {frame out : List ℕ} (n : ℕ) → Does d (hears at frame out) (hearing (faultedOf (noted d at) (losesLine d at) n out))
   repeats : {at : ℕ} {frame out : List ℕ} → Does d (hears at frame out) (hearing (repeatedOf (noted d at) out))
   handled : {at : ℕ} {frame out : List ℕ} (n : ℕ) (what : What) → n < 2
-      → Does d (hears at frame out) (hearing (handledOf (noted d at) (losesLine d at) at n (replyOf (noted d at) what) out))
+      → Does d (hears at frame out) (hearing (handledOf (noted d at) (losesLine d at) at n (replyTo (noted d at) what) out))
+
+-- a refusal of another number is not 15
+other-number : (k : ℕ) (x : No) → fails (no k 0) ≡ fails x → ¬ (k ≡ 15) → ¬ (x .number ≡ 15)
+other-number k x e n q = let y : no k 0 ≡ x = cc in n (ap (λ (z : No). z .number) y ∙ q)
 
 -- no fault of a record in a state in its ranges is 15, and a record without fault may reply
 module _ (d : Desk) (h : inRanges d ≡ true) (rec : Record) where
-  record-number : (k place : ℕ) → recordFault d rec ≡ fault k place → ¬ (k ≡ 15)
+  record-number : (x : No) → recordFault d rec ≡ fails x → ¬ (x .number ≡ 15)
   unfolding recordFault
-  record-number k place e = go (inRanges d) (eqb (typeOf rec) (dataType (d .line))) (permitsRecord (d .line) rec) h e
+  record-number x e = go (inRanges d) (eqb (typeOf rec) (dataType (d .line))) (permitsRecord (d .line) rec) h e
     where
-      go : (r t p : Bool) → r ≡ true → cond r (cond t (cond p good (fault 13 0)) (fault 12 0)) (fault 15 0) ≡ fault k place → ¬ (k ≡ 15)
+      go : (r t p : Bool) → r ≡ true → cond r (cond t (cond p good (fails (no 13 0))) (fails (no 12 0))) (fails (no 15 0)) ≡ fails x → ¬ (x .number ≡ 15)
       go true true true h e q = never (cc)
-      go true true false h e q = let x : 13 ≡ k = cc in omega arith
-      go true false p h e q = let x : 12 ≡ k = cc in omega arith
+      go true true false h e q = other-number 13 x e (λ z. omega arith) q
+      go true false p h e q = other-number 12 x e (λ z. omega arith) q
       go false t p h e q = never (cc)
 
   record-replies : recordFault d rec ≡ good → mayReply (d .line) rec ≡ true
   unfolding recordFault mayReply
   record-replies e = go (inRanges d) (eqb (typeOf rec) (dataType (d .line))) (permitsRecord (d .line) rec) e
     where
-      go : (r t p : Bool) → cond r (cond t (cond p good (fault 13 0)) (fault 12 0)) (fault 15 0) ≡ good → both t p ≡ true
+      go : (r t p : Bool) → cond r (cond t (cond p good (fails (no 13 0))) (fails (no 12 0))) (fails (no 15 0)) ≡ good → both t p ≡ true
       go true true true e = refl
       go true true false e = never (cc)
       go true false p e = never (cc)
@@ -103,59 +112,59 @@ module _ (d : Desk) (h : inRanges d ≡ true) (rec : Record) where
 
 -- no fault of a key position is 15, and a position without fault is one of the line
 module _ (d : Desk) (h : inRanges d ≡ true) (key : ℕ) where
-  key-number : (k place : ℕ) → keyFault d key ≡ fault k place → ¬ (k ≡ 15)
+  key-number : (x : No) → keyFault d key ≡ fails x → ¬ (x .number ≡ 15)
   unfolding keyFault
-  key-number k place e = go (inRanges d) (eqb (d .line) 3) (isKey key) h e
+  key-number x e = go (inRanges d) (eqb (d .line) 3) (isKey key) h e
     where
-      go : (r l p : Bool) → r ≡ true → cond r (cond l (cond p good (fault 13 0)) (fault 12 0)) (fault 15 0) ≡ fault k place → ¬ (k ≡ 15)
+      go : (r l p : Bool) → r ≡ true → cond r (cond l (cond p good (fails (no 13 0))) (fails (no 12 0))) (fails (no 15 0)) ≡ fails x → ¬ (x .number ≡ 15)
       go true true true h e q = never (cc)
-      go true true false h e q = let x : 13 ≡ k = cc in omega arith
-      go true false p h e q = let x : 12 ≡ k = cc in omega arith
+      go true true false h e q = other-number 13 x e (λ z. omega arith) q
+      go true false p h e q = other-number 12 x e (λ z. omega arith) q
       go false l p h e q = never (cc)
 
   key-fits : keyFault d key ≡ good → keyFits (d .line) key ≡ true
   unfolding keyFault keyFits
   key-fits e = go (inRanges d) (eqb (d .line) 3) (isKey key) e
     where
-      go : (r l p : Bool) → cond r (cond l (cond p good (fault 13 0)) (fault 12 0)) (fault 15 0) ≡ good → cond l p (eqb key 65) ≡ true
+      go : (r l p : Bool) → cond r (cond l (cond p good (fails (no 13 0))) (fails (no 12 0))) (fails (no 15 0)) ≡ good → cond l p (eqb key (code "A")) ≡ true
       go true true true e = refl
       go true true false e = never (cc)
       go true false p e = never (cc)
       go false l p e = never (cc)
 
 -- refused by a fault or not
-guard : (P : Turn → Type 0) (d : Desk) (step : Desk × Done) (f : Fault) → ((k place : ℕ) → f ≡ fault k place → P (d, did (refuses k place))) → (f ≡ good → P (saying step))
+guard : (P : Behind → Type 0) (d : Desk) (step : Desk × Done) (f : Fault) → ((x : No) → f ≡ fails x → P (d, did (Done.refused x))) → (f ≡ good → P (saying step))
     → P (saying (faultless f d step))
 guard P d step good a b = b refl
-guard P d step (fault k place) a b = a k place refl
+guard P d step (fails x) a b = a x refl
 
 module _ (d : Desk) (h : inRanges d ≡ true) where
   -- the rule that settles a hearing
-  applies : (at : ℕ) (frame out : List ℕ) (r : Ruling) → numberIn r < 2 → Does d (hears at frame out) (hearing (appliedOf (noted d at) (losesLine d at) at r out))
-  applies at frame out (quiet number place) n = unmoved
-  applies at frame out (wrongSum k) n = faults k
-  applies at frame out again n = repeats
-  applies at frame out (handles k what) n = handled k what n
+  applies : (at : ℕ) (frame out : List ℕ) (r : Ruling) → answersWith r < 2 → Does d (hears at frame out) (hearing (appliedOf (noted d at) (losesLine d at) at r out))
+  applies at frame out (r.silent x) n = unmoved
+  applies at frame out (r.fault x k) n = faults k
+  applies at frame out (r.repeat k what) n = repeats
+  applies at frame out (r.handle k what) n = handled k what n
 
   pub does : (call : Call) → Does d call (after d call)
   unfolding tickOf queueOf setOf keyOf hearOf heardOf
   does (ticks at) = rw h ticked
   does (queues rec) =
       guard (Does d (queues rec)) d _ (recordFault d rec)
-      (λ k place e. refused (record-number d h rec k place e))
+      (λ x e. barred (record-number d h rec x e))
       (λ e. on-test (ltb (d .queued) 8)
       (λ b. rw b (queued (record-replies d h rec e) (ltb-true (d .queued) 8 b)))
-      (λ b. rw b (refused {k = 17} (λ q. omega arith))))
+      (λ b. rw b (barred {x = no 17 0} (λ q. omega arith))))
   does (sets rec) =
       guard (Does d (sets rec)) d _ (recordFault d rec)
-      (λ k place e. refused (record-number d h rec k place e))
+      (λ x e. barred (record-number d h rec x e))
       (λ e. isSet (record-replies d h rec e))
   does (turns key) =
       guard (Does d (turns key)) d _ (keyFault d key)
-      (λ k place e. refused (key-number d h key k place e))
+      (λ x e. barred (key-number d h key x e))
       (λ e. turned (key-fits d h key e))
   does (hears at frame out) =
       rw h
-      (on-test (leb 66 (length out))
-      (λ b. rw b (applies at frame out (rulingIn (noted d at) frame) (ruling-number (noted d at) frame)))
+      (on-test (leb longest (length out))
+      (λ b. rw b (applies at frame out (ruling (noted d at) frame) (ruling-number (noted d at .line) (noted d at .good) (noted d at .last .0) frame)))
       (λ b. rw b noRoom))

@@ -16,35 +16,37 @@ use Rattle.forms.specs.Forms.{isLine, forms, onLine, lookIn, formOf, dataType, 
 use Rattle.records.specs.Records.{typeOf}
 use Rattle.records.specs.declared.records.Record.{Record}
 use Rattle.values.specs.Values.{permitsRecord}
-use Rattle.writing.specs.Writing.{telegramOf}
+use Rattle.writing.specs.Writing.{telegramOf, sentOf}
 use Rattle.roundtrips.proofs.Trips.{telegram-length, length-bounds}
-use Rattle.desk.specs.Answers.{Told, Origin}
+use Rattle.clock.specs.Room.{shortest, longest}
+use Rattle.deciding.specs.Deciding.{What, contents, notMaster, request, poll, other}
+use Rattle.replying.specs.Fitting.{mayReply, wantedFits}
+use Rattle.replying.specs.Replying.{Origin, askedOf, polledOf}
+use Rattle.replying.specs.declared.replying.Wanted.{Wanted}
+use Rattle.replying.specs.declared.replying.Wanted.the-variants.{None, Is}
+use Rattle.desk.specs.Answers.{Told}
 use Rattle.desk.specs.Answers as h
-use Rattle.desk.specs.State.{blank, mayReply, slotFits, wantedFits, startOf}
+use Rattle.desk.specs.State.{storedOf, startOf}
 use Rattle.desk.specs.Panel.{losesLine, notedOf}
-use Rattle.desk.specs.Rules.{What, misread, strange, request, poll, other}
-use Rattle.desk.specs.Replies.{askedOf, polledOf, replyOf}
-use Rattle.desk.specs.Hearing.{sentOf, faultedOf, repeatedOf, handledOf, hearOf}
+use Rattle.desk.specs.Queue.{oldest, replyTo}
+use Rattle.desk.specs.Hearing.{faultedOf, repeatedOf, handledOf, hearOf}
 use Rattle.desk.specs.declared.state.Desk.{Desk}
-use Rattle.desk.specs.declared.state.Wanted.{Wanted}
-use Rattle.desk.specs.declared.state.Wanted.the-variants.{None, Is}
-use Rattle.desk.proofs.Permitted.{reply-permitted}
-use Rattle.conduct.proofs.Desk.Waiting.{oldest-first}
-use Rattle.conduct.proofs.Desk.Steps.{never, Call, hears, heard, Turn, after, noted, Does, refused, noRoom, ticked, queued, isSet, turned, unmoved, faults, repeats, handled, does}
+use Rattle.desk.proofs.Permitted.{oldest-replies, answer-permitted}
+use Rattle.conduct.proofs.Desk.Steps.{never, Call, hears, heard, Behind, after, noted, Does, barred, noRoom, ticked, queued, isSet, turned, unmoved, faults, repeats, handled, does}
 use Rattle.conduct.proofs.Desk.Kept.{Fine, fits, noted-keeps, replied-keeps, keeps, run, runs-keep, start-fine, start-line}
 
 -- the bytes are the telegram of a record that the slave sends on the line, with permitted values, and this number; they are 10 to 66
-pub record Holding (line number kept : ℕ) (stored : List ℕ) : Type 0 where
+pub record Holding (line number : ℕ) (bytes : List ℕ) : Type 0 where
   pub rec : Record
   pub ofSlave : bySlave line (typeOf rec) ≡ true
   pub permitted : permitsRecord line rec ≡ true
-  pub bytes : take kept stored ≡ telegramOf line rec number
-  pub least : 10 ≤ kept
-  pub most : kept ≤ 66
+  pub telegram : bytes ≡ telegramOf line rec number
+  pub least : shortest ≤ length bytes
+  pub most : length bytes ≤ longest
 
 -- where the line has a stored answer, it is such with the last number taken
 abbrev pub Holds : Desk → Type 0
-Holds d = ¬ (d .kept ≡ 0) → Holding (d .line) (d .last .0) (d .kept) (d .stored)
+Holds d = ¬ (d .kept ≡ 0) → (d .kept ≡ length (storedOf d)) × Holding (d .line) (d .last .0) (storedOf d)
 
 -- the slave sends A, N and its data type
 slave-sends : (line : ℕ) → isLine line ≡ true → every (bySlave line) (code "A" ∷ code "N" ∷ dataType line ∷ []) ≡ true
@@ -67,23 +69,20 @@ module _ (line : ℕ) (h : isLine line ≡ true) where
 
 -- each answer to a handled telegram is a record that the slave sends
 module _ (d : Desk) (f : Fine d) where
-  polled-sent : bySlave (d .line) (typeOf (polledOf d .1)) ≡ true
+  polled-sent : bySlave (d .line) (typeOf (polledOf (d .line) (d .key) (d .queued) (oldest d) .0)) ≡ true
   unfolding polledOf
   polled-sent =
       let p = fits d f in
       on-test (eqb (d .queued) 0)
       (λ e. rw e (sends-a (d .line) (p .lined)))
-      (λ e.
-      let o = oldest-first (d .queue) (d .queued) (f .holds) (omega (arith, eqb-false (d .queued) 0 e)) in
-      let w = rw o at (p .waiting) in
-      rw e (sends-data (d .line) (p .lined) (getD (d .queue) 0 blank .rec) (both-left (slotFits (d .line) (getD (d .queue) 0 blank)) _ w)))
+      (λ e. rw e (sends-data (d .line) (p .lined) (oldest d) (oldest-replies d (f .holds) p (eqb-false (d .queued) 0 e))))
 
-  pub reply-sent : (what : What) → bySlave (d .line) (typeOf (replyOf d what .1)) ≡ true
-  reply-sent (misread number place) = sends-n (d .line) (fits d f .lined)
-  reply-sent strange = sends-n (d .line) (fits d f .lined)
+  pub reply-sent : (what : What) → bySlave (d .line) (typeOf (replyTo d what .0)) ≡ true
+  reply-sent (contents x) = sends-n (d .line) (fits d f .lined)
+  reply-sent notMaster = sends-n (d .line) (fits d f .lined)
   reply-sent request = asked (d .requested) (fits d f .wanted)
     where
-      asked : (w : Wanted) → wantedFits (d .line) w ≡ true → bySlave (d .line) (typeOf (askedOf d w .1)) ≡ true
+      asked : (w : Wanted) → wantedFits (d .line) w ≡ true → bySlave (d .line) (typeOf (askedOf w .0)) ≡ true
       asked None h = sends-n (d .line) (fits d f .lined)
       asked (Is rec) h = sends-data (d .line) (fits d f .lined) rec (unfold wantedFits in h)
   reply-sent poll = polled-sent
@@ -96,28 +95,28 @@ noted-holds d true k = k
 noted-holds d false k = k
 
 -- a stored telegram
-holding : (line : ℕ) (rec : Record) (number : ℕ) → bySlave line (typeOf rec) ≡ true → permitsRecord line rec ≡ true
-    → Holding line number (length (telegramOf line rec number)) (telegramOf line rec number ++ drop (length (telegramOf line rec number)) (replicate 66 0))
+holding : (line : ℕ) (rec : Record) (number : ℕ) → bySlave line (typeOf rec) ≡ true → permitsRecord line rec ≡ true → Holding line number (telegramOf line rec number)
 holding line rec number s p =
     let l = telegram-length line rec number p in
     let b = length-bounds line rec p in
-    record { rec = rec; ofSlave = s; permitted = p; bytes = take-append-seam (telegramOf line rec number) _; least = omega arith; most = omega arith }
+    record { rec = rec; ofSlave = s; permitted = p; telegram = refl; least = omega arith; most = omega arith }
 
-handled-holds : (d : Desk) → Fine d → (b : Bool) (at number : ℕ) (what : What) (out : List ℕ) → Holds (handledOf (notedOf d b) b at number (replyOf (notedOf d b) what) out .0)
+handled-holds : (d : Desk) → Fine d → (b : Bool) (at number : ℕ) (what : What) (out : List ℕ) → Holds (handledOf (notedOf d b) b at number (replyTo (notedOf d b) what) out .0)
 unfolding handledOf
 handled-holds d f b at number what out k =
     let e = notedOf d b in
     let g = noted-keeps d f b .fine in
-    let p = reply-permitted e what (g .holds) (fits e g) in
-    rw (replied-keeps e g what .line) (holding (e .line) (replyOf e what .1) number (reply-sent e g what) p)
+    let p = answer-permitted e (g .holds) (fits e g) what in
+    let t = telegramOf (e .line) (replyTo e what .0) number in
+    rw (replied-keeps e g what .line, take-append-seam t (drop (length t) (replicate longest 0))) (refl, holding (e .line) (replyTo e what .0) number (reply-sent e g what) p)
 
 -- each call keeps it
 holds-step : (d : Desk) → Fine d → Holds d → (call : Call) → Holds (after d call .0)
 unfolding faultedOf repeatedOf
 holds-step d f k call = go call (after d call) (does d (f .ranged) call)
   where
-    go : (call : Call) (turn : Turn) → Does d call turn → Holds (turn .0)
-    go call turn (refused n) = k
+    go : (call : Call) (turn : Behind) → Does d call turn → Holds (turn .0)
+    go call turn (barred n) = k
     go call turn noRoom = k
     go call turn (ticked {at}) = noted-holds d (losesLine d at) k
     go call turn (queued m q) = k
@@ -137,7 +136,8 @@ unfolding startOf
 start-none line = on-test (isLine line) (λ e. rw e) (λ e. rw e)
 
 -- Whatever calls are made from the start, a stored answer is the telegram of a permitted record of the slave on this line with the last number taken, of 10 to 66 bytes.
-pub stored-telegram : (line : ℕ) → isLine line ≡ true → (calls : List Call) (d : Desk) → d ≡ run (startOf line .0) calls → ¬ (d .kept ≡ 0) → Holding line (d .last .0) (d .kept) (d .stored)
+pub stored-telegram : (line : ℕ) → isLine line ≡ true → (calls : List Call) (d : Desk) → d ≡ run (startOf line .0) calls → ¬ (d .kept ≡ 0)
+    → (d .kept ≡ length (storedOf d)) × Holding line (d .last .0) (storedOf d)
 stored-telegram line h calls d e n =
     let l : d .line ≡ line = ap (λ (x : Desk). x .line) e ∙ runs-keep (startOf line .0) (start-fine line h) calls .line ∙ start-line line h in
     let k : Holds d = rw e (holds-run (startOf line .0) (start-fine line h) (λ q. absurd (q (start-none line))) calls) in
@@ -145,12 +145,12 @@ stored-telegram line h calls d e n =
 
 -- The answer to a handled telegram is stored as it was sent.
 pub stored-as-sent : (d : Desk) → Fine d → (at : ℕ) (frame out : List ℕ) (noting : Bool) (origin : Origin) (n : ℕ) → hearOf d at frame out .1 ≡ h.handled noting origin n
-    → (hearOf d at frame out .0 .kept ≡ n) × (take n (hearOf d at frame out .0 .stored) ≡ take n (hearOf d at frame out .2))
+    → (hearOf d at frame out .0 .kept ≡ n) × (storedOf (hearOf d at frame out .0) ≡ take n (hearOf d at frame out .2))
 unfolding faultedOf repeatedOf handledOf sentOf
 stored-as-sent d f at frame out noting origin n e = go (hears at frame out) (after d (hears at frame out)) (hearOf d at frame out .2) (does d (f .ranged) (hears at frame out)) (ap (λ (t : Told). heard t (hearOf d at frame out .2)) e)
   where
-    go : (call : Call) (turn : Turn) (new : List ℕ) → Does d call turn → turn .1 ≡ heard (h.handled noting origin n) new → (turn .0 .kept ≡ n) × (take n (turn .0 .stored) ≡ take n new)
-    go call turn new (refused x) q = never (cc)
+    go : (call : Call) (turn : Behind) (new : List ℕ) → Does d call turn → turn .1 ≡ heard (h.handled noting origin n) new → (turn .0 .kept ≡ n) × (storedOf (turn .0) ≡ take n new)
+    go call turn new (barred x) q = never (cc)
     go call turn new noRoom q = never (cc)
     go call turn new ticked q = never (cc)
     go call turn new (queued m l) q = never (cc)
@@ -160,7 +160,7 @@ stored-as-sent d f at frame out noting origin n e = go (hears at frame out) (aft
     go call turn new (faults k) q = never (cc)
     go call turn new repeats q = never (cc)
     go call turn new (handled {at} {out = old} k what b) q =
-        let t = telegramOf (noted d at .line) (replyOf (noted d at) what .1) k in
+        let t = telegramOf (noted d at .line) (replyTo (noted d at) what .0) k in
         let a : length t ≡ n = cc in
         let c : t ++ drop (length t) old ≡ new = cc in
-        (a, rw (← c, ← a, take-append-seam t (drop (length t) (replicate 66 0)), take-append-seam t (drop (length t) old)))
+        (a, rw (← c, ← a, take-append-seam t (drop (length t) (replicate longest 0)), take-append-seam t (drop (length t) old)))

@@ -7,14 +7,15 @@ use native.Mathlib.Omega.{arith}
 use borrow.Author.Tests.{le-leb, lt-leb}
 use Rattle.clock.specs.Clock.{elapsedOf, runOut}
 use Rattle.records.specs.declared.records.Record.{Record}
-use Rattle.reading.specs.Answers.{accepts}
+use Rattle.reading.specs.Answers.{accepted}
 use Rattle.reading.specs.Reading.{readingOf}
+use Rattle.deciding.specs.Deciding.{repeat, handle, matterIn}
+use Rattle.deciding.proofs.Rulings.{no-repeat, good-handled, when-accepted}
 use Rattle.desk.specs.Answers.{done, lost}
 use Rattle.desk.specs.Panel.{t1Limit, withGood, losesLine, notedOf, tickOf}
-use Rattle.desk.specs.Rules.{again, handles, matterIn, rulingIn}
+use Rattle.desk.specs.Hearing.{ruling}
 use Rattle.desk.specs.declared.state.Desk.{Desk}
 use Rattle.desk.proofs.Calls.{tick-lost, tick-done}
-use Rattle.desk.proofs.Rulings.{no-repeat, good-handled, when-accepted}
 use Rattle.conduct.proofs.Desk.Steps.{noted}
 use Rattle.conduct.proofs.Desk.Kept.{Fine}
 use Rattle.conduct.proofs.Desk.Repeats.{read-again}
@@ -49,14 +50,14 @@ module _ (d : Desk) (f : Fine d) (good : d .good ≡ true) (start : d .t1 < 2 ^ 
   ticks-at-28000 = sym (tick-lost d _ (f .ranged) loses-at (withGood d false) (unfold notedOf in refl))
 
   -- a telegram with the last number taken
-  module _ (frame : List ℕ) (rec : Record) (r : readingOf (d .line) frame ≡ accepts rec (d .last .0)) where
+  module _ (frame : List ℕ) (rec : Record) (r : readingOf (d .line) frame ≡ accepted rec (d .last .0)) where
     -- Heard at 27,999 it is a repeat.
-    pub hears-at-27999 : rulingIn (noted d ((d .t1 + 27999) % 2 ^ 32)) frame ≡ again
+    pub hears-at-27999 : ruling (noted d ((d .t1 + 27999) % 2 ^ 32)) frame ≡ repeat (d .last .0) (matterIn (d .line) rec)
     hears-at-27999 = read-again d _ frame rec r good holds-at
 
     -- Heard at 28,000 it is handled anew.
-    pub hears-at-28000 : rulingIn (noted d ((d .t1 + 28000) % 2 ^ 32)) frame ≡ handles (d .last .0) (matterIn (d .line) rec)
+    pub hears-at-28000 : ruling (noted d ((d .t1 + 28000) % 2 ^ 32)) frame ≡ handle (d .last .0) (matterIn (d .line) rec)
     unfolding notedOf
     hears-at-28000 =
-        let e = withGood d false in
-        rw loses-at (sym (good-handled e (d .last .0) (matterIn (d .line) rec) (sym (no-repeat e (d .last .0) refl)) ∙ when-accepted e frame rec (d .last .0) (sym r)))
+        let last = d .last .0 in
+        rw loses-at (sym (good-handled false last last (matterIn (d .line) rec) (sym (no-repeat false last last refl)) ∙ when-accepted (d .line) false last frame rec last (sym r)))

@@ -10,20 +10,20 @@ use lib.Seq.{drop-cons, take-nil, take-append-le, take-suc-set}
 use Rattle.laws.specs.Truth.{every}
 use Rattle.laws.proofs.Truths.{both-left, both-right, both-true}
 use Rattle.desk.specs.State.{blank}
-use Rattle.desk.specs.Replies.{shifted}
-use Rattle.desk.specs.declared.state.Slot.{Slot}
+use Rattle.desk.specs.Queue.{shifted}
+use Rattle.desk.specs.declared.state.Waiting.{Waiting}
 use Rattle.desk.specs.declared.state.Desk.{Desk}
 
 -- the places that hold queued records, the oldest first
-abbrev pub waiting : Desk → List Slot
+abbrev pub waiting : Desk → List Waiting
 waiting d = take (d .queued) (d .queue)
 
 -- a place filled behind those that are queued
-pub filled-behind : (q : List Slot) (n : ℕ) (s : Slot) → n < length q → take (n + 1) (set q n s) ≡ take n q ++ (s ∷ [])
+pub filled-behind : (q : List Waiting) (n : ℕ) (s : Waiting) → n < length q → take (n + 1) (set q n s) ≡ take n q ++ (s ∷ [])
 filled-behind q n s h = rw (add-one n) (take-suc-set q n s h)
 
 -- the places without the oldest, in a queue of 8
-shifted-row : (q : List Slot) → length q ≡ 8 → shifted q ≡ drop 1 q ++ (getD q 7 blank ∷ [])
+shifted-row : (q : List Waiting) → length q ≡ 8 → shifted q ≡ drop 1 q ++ (getD q 7 blank ∷ [])
 shifted-row q l =
     rw (
       drop-cons q 1 blank (omega arith),
@@ -37,12 +37,12 @@ shifted-row q l =
     )
 
 -- the front of a list without its first
-front-tail : (n : ℕ) (q : List Slot) → take n (drop 1 q) ≡ drop 1 (take (suc n) q)
+front-tail : (n : ℕ) (q : List Waiting) → take n (drop 1 q) ≡ drop 1 (take (suc n) q)
 front-tail n [] = take-nil n
 front-tail n (s ∷ q) = refl
 
 -- taking the oldest leaves the others in their order
-pub oldest-taken : (q : List Slot) (n : ℕ) → length q ≡ 8 → n ≤ 8 → take (n - 1) (shifted q) ≡ drop 1 (take n q)
+pub oldest-taken : (q : List Waiting) (n : ℕ) → length q ≡ 8 → n ≤ 8 → take (n - 1) (shifted q) ≡ drop 1 (take n q)
 oldest-taken q zero l h = refl
 oldest-taken q (suc n) l h =
     let k : n ≤ length (drop 1 q) = omega (arith, length-drop 1 q) in
@@ -50,15 +50,15 @@ oldest-taken q (suc n) l h =
     rw (e, shifted-row q l, take-append-le n (drop 1 q) (getD q 7 blank ∷ []) k) (front-tail n q)
 
 -- the oldest stands in front
-pub oldest-first : (q : List Slot) (n : ℕ) → length q ≡ 8 → 0 < n → take n q ≡ getD q 0 blank ∷ drop 1 (take n q)
+pub oldest-first : (q : List Waiting) (n : ℕ) → length q ≡ 8 → 0 < n → take n q ≡ getD q 0 blank ∷ drop 1 (take n q)
 oldest-first q zero l h = absurd (omega arith)
 oldest-first [] (suc n) l h = absurd (omega arith)
 oldest-first (s ∷ q) (suc n) l h = refl
 
-pub every-behind : (f : Slot → Bool) (xs : List Slot) (s : Slot) → every f xs ≡ true → f s ≡ true → every f (xs ++ (s ∷ [])) ≡ true
+pub every-behind : (f : Waiting → Bool) (xs : List Waiting) (s : Waiting) → every f xs ≡ true → f s ≡ true → every f (xs ++ (s ∷ [])) ≡ true
 every-behind f [] s h k = rw k
 every-behind f (x ∷ xs) s h k = both-true (f x) _ (both-left (f x) _ h) (every-behind f xs s (both-right (f x) _ h) k)
 
-pub every-tail : (f : Slot → Bool) (xs : List Slot) → every f xs ≡ true → every f (drop 1 xs) ≡ true
+pub every-tail : (f : Waiting → Bool) (xs : List Waiting) → every f xs ≡ true → every f (drop 1 xs) ≡ true
 every-tail f [] h = refl
 every-tail f (x ∷ xs) h = both-right (f x) (every f xs) h

@@ -1,17 +1,18 @@
 -- The paper's numbers and values tell the master's answers apart (01 'What the promises say'). Assumes nothing.
 use mathlib.Core.Path.{_≡_, refl, sym, ap, _∙_}
-use Rattle.reading.specs.Answers.{Answer, accepts, answerOf}
-use Rattle.reading.specs.Answers as t
+use Rattle.reading.specs.Answers.{Answer, accepted, answerOf}
+use Rattle.reading.specs.Answers as w
 use Rattle.reading.specs.declared.answers.Reading as g
-use Rattle.papers.specs.Answers.{refusalOf, refusal-back}
-use Rattle.master.specs.Answers.{Why, free, runOut, refused, otherNumber, whyOf, Told, refuses, nothing, sent, answered, otherKind, givenUp, ignored, toldOf}
+use Rattle.master.specs.Answers.{Why, free, runOut, otherNumber, whyOf, Told, nothing, sent, answered, otherKind, givenUp, ignored, toldOf}
 use Rattle.master.specs.declared.answers.Reason as r
 use Rattle.master.specs.declared.answers.Answer as a
+use Rattle.master.specs.Answers as t
+use Rattle.conduct.proofs.Back.{backOf, refusal-back}
 
 -- the answer of what is told: of a reading
 abbrev readingBack : Answer → g.Reading
-readingBack (accepts rec number) = g.the-variants.Accepted rec number
-readingBack (t.refuses number place) = g.the-variants.Refused (refusalOf number place)
+readingBack (accepted rec number) = g.the-variants.Accepted rec number
+readingBack (w.refused x) = g.the-variants.Refused (backOf x)
 
 reading-back : (x : g.Reading) → readingBack (answerOf x) ≡ x
 reading-back (g.the-variants.Accepted rec number) = refl
@@ -21,7 +22,7 @@ reading-back (g.the-variants.Refused x) = ap g.the-variants.Refused (refusal-bac
 abbrev reasonBack : Why → r.Reason
 reasonBack free = r.the-variants.Free
 reasonBack runOut = r.the-variants.RunOut
-reasonBack (refused number place) = r.the-variants.Refused (refusalOf number place)
+reasonBack (t.refused x) = r.the-variants.Refused (backOf x)
 reasonBack otherNumber = r.the-variants.OtherNumber
 
 reason-back : (x : r.Reason) → reasonBack (whyOf x) ≡ x
@@ -32,7 +33,7 @@ reason-back r.the-variants.OtherNumber = refl
 
 -- of a call
 abbrev answerBack : Told → a.Answer
-answerBack (refuses number place) = a.the-variants.Refused (refusalOf number place)
+answerBack (t.refused x) = a.the-variants.Refused (backOf x)
 answerBack nothing = a.the-variants.Nothing
 answerBack (sent sending count bytes) = a.the-variants.Sent sending count bytes
 answerBack (answered rec count) = a.the-variants.Answered rec count

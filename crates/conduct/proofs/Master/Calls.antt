@@ -1,5 +1,5 @@
 -- Calls of the master in any order, with any inputs, and what each can do in its ranges (01 'Link rules'). Assumes nothing.
-use mathlib.Core.Path.{_≡_, refl, sym}
+use mathlib.Core.Path.{_≡_, refl, sym, ap, _∙_}
 use mathlib.Core.Bool.{Bool, true, false, cond}
 use mathlib.Core.List.{List}
 use Prim.Native.Nat.{ℕ, _+_, _≤_}
@@ -8,21 +8,26 @@ use lib.Dec.{eqb, ltb}
 use lib.ListN.{length, getD}
 use borrow.Author.Tests.{eqb-true, eqb-false}
 use Rattle.forms.specs.Forms.{byMaster}
+use Rattle.records.specs.Refusals.{No, no}
 use Rattle.records.specs.Records.{typeOf}
 use Rattle.records.specs.declared.records.Record.{Record}
 use Rattle.values.specs.Values.{permitsRecord}
 use Rattle.reading.specs.Frame.{frameChecks}
 use Rattle.reading.specs.Reading.{readingOf}
 use Rattle.clock.specs.Clock.{runOut}
+use Rattle.clock.specs.Counters.{sameNumber, numberIn}
+use Rattle.clock.specs.Room.{longest}
+use Rattle.judging.specs.Rules.{pollOf, isFailure, permittedAnswer}
+use Rattle.judging.specs.Judging.{Judged, answeredBy, takenOf, unlessBad, judgeOf}
+use Rattle.judging.specs.Judging as j
 use Rattle.master.specs.declared.state.Master.{Master}
 use Rattle.master.specs.declared.answers.Sending.{Sending}
 use Rattle.master.specs.declared.answers.Sending.the-variants.{Offered, Again, Poll}
 use Rattle.master.specs.declared.answers.Cause.{Cause}
 use Rattle.master.specs.declared.answers.Cause.the-variants.{Silence, Rejected}
 use Rattle.master.specs.State.{isFree, sendable, inRanges, callFault, withLine, answeredState, givenUpState}
-use Rattle.master.specs.Rules.{t0Limit, t2Limit, pollOf, isFailure, permittedAnswer}
-use Rattle.master.specs.Sending.{Turn, unlessRefused, sendingOf, failedOf, offerFault, offerOf, pollingOf, waitingOf, tickOf}
-use Rattle.master.specs.Hearing.{unlessBad, judgedOf, takenOf, frameOf, hearOf}
+use Rattle.master.specs.Sending.{Behind, t0Limit, t2Limit, unlessRefused, sendingOf, failedOf, offerFault, offerOf, pollingOf, waitingOf, tickOf}
+use Rattle.master.specs.Hearing.{settledOf, judged, hearOf}
 use Rattle.master.proofs.Ranges.{passed, lined, sendable-both, poll-sendable}
 use Rattle.master.proofs.Sends.{offer-passed}
 use Rattle.reading.specs.Answers as w
@@ -40,14 +45,14 @@ outputOf (ticks at out) = out
 outputOf (hears at frame out) = out
 
 -- what a call makes of the state
-abbrev pub after : Master → Call → Turn
+abbrev pub after : Master → Call → Behind
 after m (offers at rec out) = offerOf m at rec out
 after m (ticks at out) = tickOf m at out
 after m (hears at frame out) = hearOf m at frame out
 
 -- an answer of a call that changes nothing: refused, but not 15; nothing; ignored
 pub data Quiet : t.Told → Type 0 where
-  refused : {k place : ℕ} → ¬ (k ≡ 15) → Quiet (t.refuses k place)
+  barred : {x : No} → ¬ (x .number ≡ 15) → Quiet (t.Told.refused x)
   idle : Quiet t.nothing
   unheard : {why : t.Why} → Quiet (t.ignored why)
 
@@ -63,12 +68,43 @@ pub data Ends (count : ℕ) : t.Told → Type 0 where
 
 -- what a reading is to a sending: N with 1 or 2 fails it
 abbrev pub rejects : w.Answer → Bool
-rejects (w.accepts rec number) = isFailure rec
-rejects (w.refuses k place) = false
+rejects (w.accepted rec number) = isFailure rec
+rejects (w.refused x) = false
 
 -- what a call brings that ends a telegram: a frame that checks 1 to 7 do not refuse and that is no N with 1 or 2
 pub data Brings (m : Master) : Call → Type 0 where
   brings : {at : ℕ} {frame out : List ℕ} → w.firstFault 1 (frameChecks frame) ≡ w.good → rejects (readingOf (m .line) frame) ≡ false → Brings m (hears at frame out)
+
+-- a frame that ends the telegram
+abbrev Ending : Judged → Type 0
+Ending (j.refused x) = ⊥
+Ending j.otherNumber = ⊥
+Ending j.failed = ⊥
+Ending (j.answered rec) = Unit {0}
+Ending (j.otherKind answer) = Unit {0}
+
+-- checks 1 to 7 do not refuse it, and it is no N with 1 or 2
+module _ (line number sent : ℕ) (frame : List ℕ) where
+  ending-answer : (rec : Record) (n : ℕ) → Ending (answeredBy line sent rec n) → isFailure rec ≡ false
+  unfolding answeredBy
+  ending-answer rec n e = go (isFailure rec) (permittedAnswer line sent (typeOf rec)) e
+    where
+      go : (a b : Bool) → Ending (cond a j.failed (cond b (j.answered rec) (j.otherKind (w.accepted rec n)))) → a ≡ false
+      go true b e = absurd e
+      go false b e = refl
+
+  ending-reading : (answer : w.Answer) → Ending (takenOf line sent answer) → rejects answer ≡ false
+  ending-reading (w.accepted rec n) e = ending-answer rec n e
+  ending-reading (w.refused x) e = refl
+
+  ending : Ending (judgeOf line number sent frame) → (w.firstFault 1 (frameChecks frame) ≡ w.good) × (rejects (readingOf line frame) ≡ false)
+  unfolding judgeOf
+  ending e = go (w.firstFault 1 (frameChecks frame)) (sameNumber number (numberIn (getD frame 4 0))) e
+    where
+      go : (f : w.Fault) (b : Bool) → Ending (unlessBad f (cond b (takenOf line sent (readingOf line frame)) j.otherNumber)) → (f ≡ w.good) × (rejects (readingOf line frame) ≡ false)
+      go w.good true e = (refl, ending-reading (readingOf line frame) e)
+      go w.good false e = absurd e
+      go (w.fails x) b e = absurd e
 
 -- giving up by silence notes the line lost; by N it stays good
 abbrev pub lineAfter : Cause → Bool
@@ -76,86 +112,82 @@ lineAfter Silence = false
 lineAfter Rejected = true
 
 -- what a call can do to a state in its ranges
-pub data Does (m : Master) (call : Call) : Turn → Type 0 where
+pub data Does (m : Master) (call : Call) : Behind → Type 0 where
   stays : (told : t.Told) → Quiet told → Does m call (m, (told, outputOf call))
-  begins : (sending : Sending) (rec : Record) (at : ℕ) → First m call sending rec → isFree m ≡ true → sendable (m .line) rec ≡ true → 66 ≤ length (outputOf call)
+  begins : (sending : Sending) (rec : Record) (at : ℕ) → First m call sending rec → isFree m ≡ true → sendable (m .line) rec ≡ true → longest ≤ length (outputOf call)
       → Does m call (sendingOf sending m rec 1 at (outputOf call))
-  repeats : (g : Bool) (at : ℕ) → isFree m ≡ false → ¬ (m .count ≡ 3) → 66 ≤ length (outputOf call)
+  repeats : (g : Bool) (at : ℕ) → isFree m ≡ false → ¬ (m .count ≡ 3) → longest ≤ length (outputOf call)
       → Does m call (sendingOf Again (withLine m g) (m .rec) (m .count + 1) at (outputOf call))
   ends : (told : t.Told) → Ends (m .count) told → isFree m ≡ false → Brings m call → Does m call (answeredState (withLine m true), (told, outputOf call))
   givesUp : (cause : Cause) → isFree m ≡ false → m .count ≡ 3
       → Does m call (givenUpState (withLine m (lineAfter cause)), (t.givenUp cause (m .count), outputOf call))
 
 -- a test's two ways
-split : (P : Turn → Type 0) (b : Bool) {x y : Turn} → (b ≡ true → P x) → (b ≡ false → P y) → P (cond b x y)
+split : (P : Behind → Type 0) (b : Bool) {x y : Behind} → (b ≡ true → P x) → (b ≡ false → P y) → P (cond b x y)
 split P true f g = f refl
 split P false f g = g refl
 
 -- refused or not
-guard : (P : Turn → Type 0) (m : Master) (out : List ℕ) (turn : Turn) (f : w.Fault) → ((k place : ℕ) → f ≡ w.fault k place → P (m, (t.refuses k place, out))) → (f ≡ w.good → P turn)
+guard : (P : Behind → Type 0) (m : Master) (out : List ℕ) (turn : Behind) (f : w.Fault) → ((x : No) → f ≡ w.fails x → P (m, (t.Told.refused x, out))) → (f ≡ w.good → P turn)
     → P (unlessRefused f m out turn)
 guard P m out turn w.good a b = b refl
-guard P m out turn (w.fault k place) a b = a k place refl
+guard P m out turn (w.fails x) a b = a x refl
 
--- a frame refused 1 to 7 or not
-bad : (P : Turn → Type 0) (m : Master) (out : List ℕ) (turn : Turn) (f : w.Fault) → ((k place : ℕ) → P (m, (t.ignored (t.refused k place), out))) → (f ≡ w.good → P turn) → P (unlessBad f m out turn)
-bad P m out turn w.good a b = b refl
-bad P m out turn (w.fault k place) a b = a k place
+-- a refusal of another number is not 15
+other-number : (k : ℕ) (x : No) → w.fails (no k 0) ≡ w.fails x → ¬ (k ≡ 15) → ¬ (x .number ≡ 15)
+other-number k x e n q = let y : no k 0 ≡ x = cc in n (ap (λ (z : No). z .number) y ∙ q)
 
 -- in its ranges a state is not refused 15
-call-number : (m : Master) (room k place : ℕ) → inRanges m ≡ true → callFault m room ≡ w.fault k place → ¬ (k ≡ 15)
+call-number : (m : Master) (room : ℕ) (x : No) → inRanges m ≡ true → callFault m room ≡ w.fails x → ¬ (x .number ≡ 15)
 unfolding callFault
-call-number m room k place h e = go (inRanges m) (ltb room 66) h e
+call-number m room x h e = go (inRanges m) (ltb room longest) h e
   where
-    go : (r s : Bool) → r ≡ true → cond r (cond s (w.fault 14 0) w.good) (w.fault 15 0) ≡ w.fault k place → ¬ (k ≡ 15)
-    go true true h e q = let x : 14 ≡ k = cc in omega arith
+    go : (r s : Bool) → r ≡ true → cond r (cond s (w.fails (no 14 0)) w.good) (w.fails (no 15 0)) ≡ w.fails x → ¬ (x .number ≡ 15)
+    go true true h e q = other-number 14 x e (λ z. omega arith) q
     go true false h e q = let z : _≡_ {A = ℕ} 0 1 = cc in omega arith
     go false s h e q = let z : _≡_ {A = ℕ} 0 1 = cc in omega arith
 
 -- nor is an offer by 16, 12 and 13
-offer-number : (m : Master) (rec : Record) (k place : ℕ) → offerFault m rec ≡ w.fault k place → ¬ (k ≡ 15)
+offer-number : (m : Master) (rec : Record) (x : No) → offerFault m rec ≡ w.fails x → ¬ (x .number ≡ 15)
 unfolding offerFault
-offer-number m rec k place e = go (isFree m) (byMaster (m .line) (typeOf rec)) (permitsRecord (m .line) rec) e
+offer-number m rec x e = go (isFree m) (byMaster (m .line) (typeOf rec)) (permitsRecord (m .line) rec) e
   where
-    go : (f b p : Bool) → cond f (cond b (cond p w.good (w.fault 13 0)) (w.fault 12 0)) (w.fault 16 0) ≡ w.fault k place → ¬ (k ≡ 15)
+    go : (f b p : Bool) → cond f (cond b (cond p w.good (w.fails (no 13 0))) (w.fails (no 12 0))) (w.fails (no 16 0)) ≡ w.fails x → ¬ (x .number ≡ 15)
     go true true true e q = let z : _≡_ {A = ℕ} 0 1 = cc in omega arith
-    go true true false e q = let x : 13 ≡ k = cc in omega arith
-    go true false p e q = let x : 12 ≡ k = cc in omega arith
-    go false b p e q = let x : 16 ≡ k = cc in omega arith
+    go true true false e q = other-number 13 x e (λ z. omega arith) q
+    go true false p e q = other-number 12 x e (λ z. omega arith) q
+    go false b p e q = other-number 16 x e (λ z. omega arith) q
 
 module _ (m : Master) (h : inRanges m ≡ true) where
   -- a failed sending, for either cause
-  fails : (call : Call) (cause : Cause) (g : Bool) (at : ℕ) → isFree m ≡ false → 66 ≤ length (outputOf call) → Does m call (failedOf cause (lineAfter cause) (withLine m g) at (outputOf call))
+  fails : (call : Call) (cause : Cause) (g : Bool) (at : ℕ) → isFree m ≡ false → longest ≤ length (outputOf call) → Does m call (failedOf cause (lineAfter cause) (withLine m g) at (outputOf call))
   unfolding failedOf
   fails call cause g at f r =
       split (Does m call) (eqb (m .count) 3)
       (λ e. givesUp cause f (eqb-true (m .count) 3 e))
       (λ e. repeats g at f (eqb-false (m .count) 3 e) r)
 
-  -- what a frame with the number that was sent reads as
-  takes : (call : Call) (at : ℕ) (answer : w.Answer) → (rejects answer ≡ false → Brings m call) → isFree m ≡ false → 66 ≤ length (outputOf call) → Does m call (takenOf (withLine m true) at answer (outputOf call))
-  unfolding judgedOf
-  takes call at (w.refuses k place) b f r = ends (t.otherKind (w.refuses k place) (m .count)) strange f (b refl)
-  takes call at (w.accepts rec number) b f r =
-      split (Does m call) (isFailure rec)
-      (λ e. fails call Rejected true at f r)
-      (λ e. split (Does m call) (permittedAnswer (m .line) (typeOf (m .rec)) (typeOf rec))
-      (λ p. ends (t.answered rec (m .count)) permitted f (b e))
-      (λ p. ends (t.otherKind (w.accepts rec number) (m .count)) strange f (b e)))
+  -- what a heard frame is, and what it makes of the state
+  settles : (call : Call) (at : ℕ) (judged : Judged) → (Ending judged → Brings m call) → isFree m ≡ false → longest ≤ length (outputOf call) → Does m call (settledOf m at judged (outputOf call))
+  settles call at (j.refused x) b f r = stays (t.ignored (t.Why.refused x)) unheard
+  settles call at j.otherNumber b f r = stays (t.ignored t.otherNumber) unheard
+  settles call at j.failed b f r = fails call Rejected true at f r
+  settles call at (j.answered rec) b f r = ends (t.answered rec (m .count)) permitted f (b tt)
+  settles call at (j.otherKind answer) b f r = ends (t.otherKind answer (m .count)) strange f (b tt)
 
   -- 15 and 14
-  checks : (call : Call) (turn : Turn) → (66 ≤ length (outputOf call) → Does m call turn) → Does m call (unlessRefused (callFault m (length (outputOf call))) m (outputOf call) turn)
+  checks : (call : Call) (turn : Behind) → (longest ≤ length (outputOf call) → Does m call turn) → Does m call (unlessRefused (callFault m (length (outputOf call))) m (outputOf call) turn)
   checks call turn go =
       guard (Does m call) m (outputOf call) turn (callFault m (length (outputOf call)))
-      (λ k place e. stays (t.refuses k place) (refused (call-number m (length (outputOf call)) k place h e)))
+      (λ x e. stays (t.Told.refused x) (barred (call-number m (length (outputOf call)) x h e)))
       (λ e. go (passed m (length (outputOf call)) (sym e) .1))
 
   pub does : (call : Call) → Does m call (after m call)
-  unfolding offerOf tickOf pollingOf waitingOf hearOf frameOf
+  unfolding offerOf tickOf pollingOf waitingOf hearOf
   does (offers at rec out) =
       checks (offers at rec out) _ (λ r.
       guard (Does m (offers at rec out)) m out (sendingOf Offered m rec 1 at out) (offerFault m rec)
-      (λ k place e. stays (t.refuses k place) (refused (offer-number m rec k place e)))
+      (λ x e. stays (t.Told.refused x) (barred (offer-number m rec x e)))
       (λ e. let o = offer-passed m rec (sym e) in begins Offered rec at offered (o .0) (sendable-both (m .line) rec (o .1 .0) (o .1 .1)) r))
   does (ticks at out) =
       checks (ticks at out) _ (λ r.
@@ -163,17 +195,13 @@ module _ (m : Master) (h : inRanges m ≡ true) where
       (λ f. split (Does m (ticks at out)) (runOut at (m .t0) (t0Limit m))
       (λ e. begins Poll (pollOf (m .line)) at polled f (poll-sendable (m .line) (lined m h)) r)
       (λ e. stays t.nothing idle))
-      (λ f. split (Does m (ticks at out)) (runOut at (m .t2) (t2Limit m))
+      (λ f. split (Does m (ticks at out)) (runOut at (m .t2) t2Limit)
       (λ e. fails (ticks at out) Silence (m .good) at f r)
       (λ e. stays t.nothing idle)))
   does (hears at frame out) =
       checks (hears at frame out) _ (λ r.
       split (Does m (hears at frame out)) (isFree m)
       (λ f. stays (t.ignored t.free) unheard)
-      (λ f. split (Does m (hears at frame out)) (runOut at (m .t2) (t2Limit m))
+      (λ f. split (Does m (hears at frame out)) (runOut at (m .t2) t2Limit)
       (λ e. stays (t.ignored t.runOut) unheard)
-      (λ e. bad (Does m (hears at frame out)) m out _ (w.firstFault 1 (frameChecks frame))
-      (λ k place. stays (t.ignored (t.refused k place)) unheard)
-      (λ c. split (Does m (hears at frame out)) (eqb (getD frame 4 0) (48 + m .number .0))
-      (λ n. takes (hears at frame out) at (readingOf (m .line) frame) (brings c) f r)
-      (λ n. stays (t.ignored t.otherNumber) unheard)))))
+      (λ e. settles (hears at frame out) at (judged m frame) (λ z. let b = ending (m .line) (m .number .0) (typeOf (m .rec)) frame z in brings (b .0) (b .1)) f r)))

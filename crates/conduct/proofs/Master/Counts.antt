@@ -10,11 +10,11 @@ use Rattle.forms.specs.Forms.{isLine}
 use Rattle.master.specs.declared.state.Master.{Master}
 use Rattle.master.specs.declared.answers.Sending.{Sending}
 use Rattle.master.specs.declared.answers.Sending.the-variants.{Offered, Again, Poll}
-use Rattle.master.specs.Answers.{Told, refuses, nothing, sent, answered, otherKind, givenUp, ignored}
+use Rattle.master.specs.Answers.{Told, refused, nothing, sent, answered, otherKind, givenUp, ignored}
 use Rattle.master.specs.State.{isFree, inRanges, started}
-use Rattle.master.specs.Sending.{Turn, sendingOf}
+use Rattle.master.specs.Sending.{Behind, sendingOf}
 use Rattle.master.proofs.Ranges.{counted}
-use Rattle.conduct.proofs.Master.Calls.{Call, after, Quiet, refused, idle, unheard, First, offered, polled, Ends, permitted, strange, Does, stays, begins, repeats, ends, givesUp, does}
+use Rattle.conduct.proofs.Master.Calls.{Call, after, Quiet, barred, idle, unheard, First, offered, polled, Ends, permitted, strange, Does, stays, begins, repeats, ends, givesUp, does}
 use Rattle.conduct.proofs.Master.Kept.{keeps, start-ranged}
 
 -- how many sendings are made behind one more, of n made so far: a first sending counts anew
@@ -25,7 +25,7 @@ oneMore n Poll = 1
 
 -- the sendings made since the first of the telegram, behind one more answer
 abbrev pub tally : ℕ → Told → ℕ
-tally n (refuses k place) = n
+tally n (refused x) = n
 tally n nothing = n
 tally n (sent sending count bytes) = oneMore n sending
 tally n (answered rec count) = n
@@ -39,7 +39,7 @@ Equals count n = (count ≡ n) × ((1 ≤ count) × (count ≤ 3))
 
 -- the count that an answer reports, where it reports one, is this number
 abbrev pub Reports : Told → ℕ → Type 0
-Reports (refuses k place) n = Unit {0}
+Reports (refused x) n = Unit {0}
 Reports nothing n = Unit {0}
 Reports (sent sending count bytes) n = Equals count n
 Reports (answered rec count) n = Equals count n
@@ -61,7 +61,7 @@ module _ (m : Master) (h : inRanges m ≡ true) (n : ℕ) (k : Holds n m) where
   within f = let a = counted m h f in let b = eqb-false (m .count) 0 f in (omega arith, omega arith)
 
   quiet : (told : Told) → Quiet told → Reports told (tally n told) × Holds (tally n told) m
-  quiet told (refused x) = (tt, k)
+  quiet told (barred x) = (tt, k)
   quiet told idle = (tt, k)
   quiet told unheard = (tt, k)
 
@@ -73,7 +73,7 @@ module _ (m : Master) (h : inRanges m ≡ true) (n : ℕ) (k : Holds n m) where
   begun call sending offered = refl
   begun call sending polled = refl
 
-  step : (call : Call) (turn : Turn) → Does m call turn → Reports (turn .1 .0) (tally n (turn .1 .0)) × Holds (tally n (turn .1 .0)) (turn .0)
+  step : (call : Call) (turn : Behind) → Does m call turn → Reports (turn .1 .0) (tally n (turn .1 .0)) × Holds (tally n (turn .1 .0)) (turn .0)
   unfolding sendingOf
   step call turn (stays told q) = quiet told q
   step call turn (begins sending rec at f free s r) = let e = begun call sending f in ((sym e, (omega arith, omega arith)), λ _. sym e)

@@ -9,8 +9,8 @@ use Rattle.master.specs.declared.state.Master.{Master}
 use Rattle.master.specs.declared.answers.Cause.{Cause}
 use Rattle.master.specs.Answers.{Told, otherKind, givenUp}
 use Rattle.master.specs.State.{isFree, inRanges}
-use Rattle.master.specs.Sending.{Turn, sendingOf}
-use Rattle.conduct.proofs.Master.Calls.{Call, after, Quiet, refused, idle, unheard, Ends, permitted, strange, lineAfter, Does, stays, begins, repeats, ends, givesUp, does}
+use Rattle.master.specs.Sending.{Behind, sendingOf}
+use Rattle.conduct.proofs.Master.Calls.{Call, after, Quiet, barred, idle, unheard, Ends, permitted, strange, lineAfter, Does, stays, begins, repeats, ends, givesUp, does}
 
 -- two answers of different kinds are never equal
 never : {A : Type 0} → _≡_ {A = ℕ} 0 1 → A
@@ -29,7 +29,7 @@ module _ (m : Master) (h : inRanges m ≡ true) (call : Call) where
   after-giving-up cause n e = go (after m call) (does m h call) e
     where
       quiet : {A : Type 0} (told : Told) → Quiet told → told ≡ givenUp cause n → A
-      quiet told (refused x) q = never (cc)
+      quiet told (barred x) q = never (cc)
       quiet told idle q = never (cc)
       quiet told unheard q = never (cc)
 
@@ -37,7 +37,7 @@ module _ (m : Master) (h : inRanges m ≡ true) (call : Call) where
       over told permitted q = never (cc)
       over told strange q = never (cc)
 
-      go : (turn : Turn) → Does m call turn → turn .1 .0 ≡ givenUp cause n → (n ≡ 3) × Freed (turn .0) 0 (lineAfter cause)
+      go : (turn : Behind) → Does m call turn → turn .1 .0 ≡ givenUp cause n → (n ≡ 3) × Freed (turn .0) 0 (lineAfter cause)
       go turn (stays told x) q = quiet told x q
       go turn (begins sending rec at f free s r) q = never (cc)
       go turn (repeats g at f x r) q = never (cc)
@@ -53,11 +53,11 @@ module _ (m : Master) (h : inRanges m ≡ true) (call : Call) where
   after-other-kind answer n e = go (after m call) (does m h call) e
     where
       quiet : {A : Type 0} (told : Told) → Quiet told → told ≡ otherKind answer n → A
-      quiet told (refused x) q = never (cc)
+      quiet told (barred x) q = never (cc)
       quiet told idle q = never (cc)
       quiet told unheard q = never (cc)
 
-      go : (turn : Turn) → Does m call turn → turn .1 .0 ≡ otherKind answer n → Freed (turn .0) (changedOf (m .number .0)) true
+      go : (turn : Behind) → Does m call turn → turn .1 .0 ≡ otherKind answer n → Freed (turn .0) (changedOf (m .number .0)) true
       go turn (stays told x) q = quiet told x q
       go turn (begins sending rec at f free s r) q = never (cc)
       go turn (repeats g at f x r) q = never (cc)

@@ -1,5 +1,5 @@
 -- From the start, under any calls in any order with any inputs, the master's state is in its ranges (01 'Numbered answers', 15). Assumes nothing.
-use mathlib.Core.Path.{_≡_, refl}
+use mathlib.Core.Path.{_≡_, refl, ap, _∙_}
 use mathlib.Core.Bool.{Bool, true, false, cond}
 use mathlib.Core.List.{List, [], _∷_}
 use Prim.Native.Nat.{ℕ, _<_}
@@ -7,14 +7,16 @@ use native.Mathlib.Omega.{arith}
 use lib.Dec.{eqb}
 use borrow.Author.Tests.{lt-ltb}
 use Rattle.laws.specs.Truth.{either}
+use Rattle.laws.proofs.Truths.{clash}
+use Rattle.records.specs.Refusals.{No}
 use Rattle.forms.specs.Forms.{isLine}
 use Rattle.clock.specs.Counters.{changedOf}
 use Rattle.master.specs.declared.state.Master.{Master}
-use Rattle.master.specs.Answers.{Told, refuses}
+use Rattle.master.specs.Answers.{Told, refused}
 use Rattle.master.specs.State.{isFree, sendable, inRanges, started}
-use Rattle.master.specs.Sending.{Turn, sendingOf}
+use Rattle.master.specs.Sending.{Behind, sendingOf}
 use Rattle.master.proofs.Ranges.{lined, numbered, counted, sends}
-use Rattle.conduct.proofs.Master.Calls.{Call, after, Quiet, refused, idle, unheard, Ends, permitted, strange, Does, stays, begins, repeats, ends, givesUp, does}
+use Rattle.conduct.proofs.Master.Calls.{Call, after, Quiet, barred, idle, unheard, Ends, permitted, strange, Does, stays, begins, repeats, ends, givesUp, does}
 
 -- a state behind calls, one after the other
 abbrev pub run : Master → List Call → Master
@@ -53,7 +55,7 @@ pub keeps : (m : Master) → inRanges m ≡ true → (call : Call) → inRanges 
 unfolding sendingOf
 keeps m h call = go (after m call) (does m h call)
   where
-    go : (turn : Turn) → Does m call turn → inRanges (turn .0) ≡ true
+    go : (turn : Behind) → Does m call turn → inRanges (turn .0) ≡ true
     go turn (stays told q) = h
     go turn (begins sending rec at f free s r) = busy-ranged (turn .0) (lined m h) (numbered m h) (omega arith) s
     go turn (repeats g at f n r) =
@@ -67,29 +69,29 @@ stays-ranged m h [] = h
 stays-ranged m h (call ∷ calls) = stays-ranged (after m call .0) (keeps m h call) calls
 
 -- in its ranges a state is not refused 15
-pub not-15 : (m : Master) → inRanges m ≡ true → (call : Call) (place : ℕ) → ¬ (after m call .1 .0 ≡ refuses 15 place)
+pub not-15 : (m : Master) → inRanges m ≡ true → (call : Call) (x : No) → after m call .1 .0 ≡ refused x → ¬ (x .number ≡ 15)
 unfolding sendingOf
-not-15 m h call place e = go (after m call) (does m h call) e
+not-15 m h call x e = go (after m call) (does m h call) e
   where
-    quiet : (told : Told) → Quiet told → ¬ (told ≡ refuses 15 place)
-    quiet told (refused {k} n) q = let x : k ≡ 15 = cc in n x
-    quiet told idle q = let z : _≡_ {A = ℕ} 0 1 = cc in omega arith
-    quiet told unheard q = let z : _≡_ {A = ℕ} 0 1 = cc in omega arith
+    quiet : (told : Told) → Quiet told → told ≡ refused x → ¬ (x .number ≡ 15)
+    quiet told (barred {x = y} n) q k = let z : y ≡ x = cc in n (ap (λ (w : No). w .number) z ∙ k)
+    quiet told idle q k = clash (cc)
+    quiet told unheard q k = clash (cc)
 
-    over : (count : ℕ) (told : Told) → Ends count told → ¬ (told ≡ refuses 15 place)
-    over count told permitted q = let z : _≡_ {A = ℕ} 0 1 = cc in omega arith
-    over count told strange q = let z : _≡_ {A = ℕ} 0 1 = cc in omega arith
+    over : (count : ℕ) (told : Told) → Ends count told → told ≡ refused x → ¬ (x .number ≡ 15)
+    over count told permitted q = clash (cc)
+    over count told strange q = clash (cc)
 
-    go : (turn : Turn) → Does m call turn → ¬ (turn .1 .0 ≡ refuses 15 place)
+    go : (turn : Behind) → Does m call turn → turn .1 .0 ≡ refused x → ¬ (x .number ≡ 15)
     go turn (stays told n) q = quiet told n q
-    go turn (begins sending rec at f free s r) q = let z : _≡_ {A = ℕ} 0 1 = cc in omega arith
-    go turn (repeats g at f n r) q = let z : _≡_ {A = ℕ} 0 1 = cc in omega arith
+    go turn (begins sending rec at f free s r) q = clash (cc)
+    go turn (repeats g at f n r) q = clash (cc)
     go turn (ends told n f b) q = over (m .count) told n q
-    go turn (givesUp cause f c) q = let z : _≡_ {A = ℕ} 0 1 = cc in omega arith
+    go turn (givesUp cause f c) q = clash (cc)
 
 -- From the start the state is in its ranges behind any calls, and no further call is refused 15.
-pub never-15 : (line at : ℕ) → isLine line ≡ true → (calls : List Call) (call : Call) (place : ℕ)
-    → (inRanges (run (started line at) calls) ≡ true) × ¬ (after (run (started line at) calls) call .1 .0 ≡ refuses 15 place)
-never-15 line at h calls call place =
+pub never-15 : (line at : ℕ) → isLine line ≡ true → (calls : List Call) (call : Call)
+    → (inRanges (run (started line at) calls) ≡ true) × ((x : No) → after (run (started line at) calls) call .1 .0 ≡ refused x → ¬ (x .number ≡ 15))
+never-15 line at h calls call =
     let k = stays-ranged (started line at) (start-ranged line at h) calls in
-    (k, not-15 (run (started line at) calls) k call place)
+    (k, not-15 (run (started line at) calls) k call)

@@ -3,22 +3,19 @@ use mathlib.Core.Path.{_≡_, refl, sym, _∙_}
 use mathlib.Core.Bool.{true, false}
 use mathlib.Core.List.{List, [], _∷_}
 use Prim.Native.Nat.{ℕ, _+_}
-use lib.ListN.{take, drop}
+use lib.ListN.{length, take, drop}
 use lib.Seq.{take-at, drop-at}
 use Rattle.laws.proofs.Truths.{clash}
 use Rattle.forms.specs.Forms.{isLine}
 use Rattle.records.specs.declared.records.Record.{Record}
-use Rattle.values.specs.Values.{permitsRecord, lengthOf}
-use Rattle.writing.specs.Writing.{telegramOf}
-use Rattle.roundtrips.proofs.Trips.{telegram-length}
+use Rattle.writing.specs.Writing.{telegramOf, sentOf}
 use Rattle.master.specs.declared.state.Master.{Master}
 use Rattle.master.specs.declared.answers.Sending.{Sending}
 use Rattle.master.specs.declared.answers.Sending.the-variants.{Again}
-use Rattle.master.specs.Answers.{Told, refuses, nothing, sent, answered, otherKind, givenUp, ignored}
+use Rattle.master.specs.Answers.{Told, refused, nothing, sent, answered, otherKind, givenUp, ignored}
 use Rattle.master.specs.State.{isFree, inRanges, withLine, started}
-use Rattle.master.specs.Sending.{Turn, putOf, sendingOf}
-use Rattle.master.proofs.Ranges.{sends, sendable-permits}
-use Rattle.conduct.proofs.Master.Calls.{Call, outputOf, after, Quiet, refused, idle, unheard, First, Ends, permitted, strange, Does, stays, begins, repeats, ends, givesUp, does}
+use Rattle.master.specs.Sending.{Behind, sendingOf}
+use Rattle.conduct.proofs.Master.Calls.{Call, outputOf, after, Quiet, barred, idle, unheard, First, Ends, permitted, strange, Does, stays, begins, repeats, ends, givesUp, does}
 use Rattle.conduct.proofs.Master.Kept.{keeps, start-ranged}
 
 -- the bytes of a sending, where held are those of the sending before it
@@ -30,7 +27,7 @@ pub data Right (held : List ℕ) (m : Master) (call : Call) (sending : Sending) 
 
 -- what a call leaves in the output: a sending fills its front and keeps the bytes behind it; a call that sends nothing writes nothing
 abbrev pub Leaves : List ℕ → Master → Call → Told → List ℕ → Type 0
-Leaves held m call (refuses k place) new = new ≡ outputOf call
+Leaves held m call (refused x) new = new ≡ outputOf call
 Leaves held m call nothing new = new ≡ outputOf call
 Leaves held m call (sent sending count n) new = Right held m call sending (take n new) × (drop n new ≡ drop n (outputOf call))
 Leaves held m call (answered rec count) new = new ≡ outputOf call
@@ -40,7 +37,7 @@ Leaves held m call (ignored why) new = new ≡ outputOf call
 
 -- the bytes of the last sending, behind one more answer
 abbrev pub lastSent : List ℕ → Told → List ℕ → List ℕ
-lastSent held (refuses k place) new = held
+lastSent held (refused x) new = held
 lastSent held nothing new = held
 lastSent held (sent sending count n) new = take n new
 lastSent held (answered rec count) new = held
@@ -60,22 +57,25 @@ abbrev Holds : List ℕ → Master → Type 0
 Holds held m = isFree m ≡ false → held ≡ telegramOf (m .line) (m .rec) (m .number .0)
 
 -- the front of what a sending leaves, and the bytes behind it
-module _ (sending : Sending) (m : Master) (rec : Record) (count at : ℕ) (out : List ℕ) (p : permitsRecord (m .line) rec ≡ true) where
-  pub front : take (lengthOf (m .line) rec) (sendingOf sending m rec count at out .1 .1) ≡ telegramOf (m .line) rec (m .number .0)
-  unfolding sendingOf putOf
-  front = take-at (telegramOf (m .line) rec (m .number .0)) _ (lengthOf (m .line) rec) (telegram-length (m .line) rec (m .number .0) p)
+module _ (sending : Sending) (m : Master) (rec : Record) (count at : ℕ) (out : List ℕ) where
+  abbrev bytes : List ℕ
+  bytes = telegramOf (m .line) rec (m .number .0)
 
-  behind : drop (lengthOf (m .line) rec) (sendingOf sending m rec count at out .1 .1) ≡ drop (lengthOf (m .line) rec) out
-  unfolding sendingOf putOf
-  behind = drop-at (telegramOf (m .line) rec (m .number .0)) _ (lengthOf (m .line) rec) (telegram-length (m .line) rec (m .number .0) p)
+  pub front : take (length bytes) (sendingOf sending m rec count at out .1 .1) ≡ bytes
+  unfolding sendingOf sentOf
+  front = take-at bytes (drop (length bytes) out) (length bytes) refl
 
-module _ (m : Master) (h : inRanges m ≡ true) (held : List ℕ) (k : Holds held m) (call : Call) where
+  behind : drop (length bytes) (sendingOf sending m rec count at out .1 .1) ≡ drop (length bytes) out
+  unfolding sendingOf sentOf
+  behind = drop-at bytes (drop (length bytes) out) (length bytes) refl
+
+module _ (m : Master) (held : List ℕ) (k : Holds held m) (call : Call) where
   -- what a turn leaves, and what holds behind it
-  abbrev Step : Turn → Type 0
+  abbrev Step : Behind → Type 0
   Step turn = Leaves held m call (turn .1 .0) (turn .1 .1) × Holds (lastSent held (turn .1 .0) (turn .1 .1)) (turn .0)
 
   quiet : (told : Told) → Quiet told → Step (m, (told, outputOf call))
-  quiet told (refused x) = (refl, k)
+  quiet told (barred x) = (refl, k)
   quiet told idle = (refl, k)
   quiet told unheard = (refl, k)
 
@@ -83,24 +83,22 @@ module _ (m : Master) (h : inRanges m ≡ true) (held : List ℕ) (k : Holds hel
   over told n f permitted = (refl, λ q. clash (sym q ∙ f))
   over told n f strange = (refl, λ q. clash (sym q ∙ f))
 
-  step : (turn : Turn) → Does m call turn → Step turn
-  unfolding sendingOf putOf
+  step : (turn : Behind) → Does m call turn → Step turn
+  unfolding sendingOf sentOf
   step turn (stays told q) = quiet told q
   step turn (begins sending rec at f free s r) =
-      let p = sendable-permits (m .line) rec s in
-      let e = front sending m rec 1 at (outputOf call) p in
-      ((first f e, behind sending m rec 1 at (outputOf call) p), λ _. e)
+      let e = front sending m rec 1 at (outputOf call) in
+      ((first f e, behind sending m rec 1 at (outputOf call)), λ _. e)
   step turn (repeats g at f x r) =
-      let p = sendable-permits (m .line) (m .rec) (sends m h f) in
-      let e = front Again (withLine m g) (m .rec) (m .count + 1) at (outputOf call) p in
-      ((same refl (e ∙ sym (k f)), behind Again (withLine m g) (m .rec) (m .count + 1) at (outputOf call) p), λ _. e)
+      let e = front Again (withLine m g) (m .rec) (m .count + 1) at (outputOf call) in
+      ((same refl (e ∙ sym (k f)), behind Again (withLine m g) (m .rec) (m .count + 1) at (outputOf call)), λ _. e)
   step turn (ends told e f b) = over told (turn .0) refl e
   step turn (givesUp cause f c) = (refl, λ q. clash (sym q))
 
 all-sent : (held : List ℕ) (m : Master) → inRanges m ≡ true → Holds held m → (calls : List Call) → Sent held m calls
 all-sent held m h k [] = tt
 all-sent held m h k (call ∷ calls) =
-    let s = step m h held k call (after m call) (does m h call) in
+    let s = step m held k call (after m call) (does m h call) in
     (s .0, all-sent (lastSent held (after m call .1 .0) (after m call .1 .1)) (after m call .0) (keeps m h call) (s .1) calls)
 
 -- Whatever calls are made from the start, each first sending is the telegram of the offered record or of the poll with the number to send, each further one the same bytes, and no other call writes.

@@ -1,6 +1,7 @@
 -- `desk::state::kept_fits` meets its contract. Assumes nothing.
 use Rattle.desk.specs.State.{keptFits}
 use Rattle.laws.proofs.Tests.{tests}
+use borrow.Author.Needs.{needs}
 use Rattle.desk.proofs.state.kept_fits.Statement.{statement}
 use Rattle.desk.proofs.state.kept_fits.Tie as tie
 
@@ -12,9 +13,12 @@ returns-2 : tie.Need-returns-2
 unfolding keptFits
 returns-2 c = search tests
 
+add-result : tie.Need-add-result
+add-result c = search needs
+
 returns-3 : tie.Need-returns-3
 unfolding keptFits
 returns-3 c = search tests
 
 pub kept-fits-spec : {M : Type 1} → statement M
-kept-fits-spec = tie.close (tie.spec returns returns-2 returns-3)
+kept-fits-spec = tie.close (tie.spec returns returns-2 add-result returns-3)

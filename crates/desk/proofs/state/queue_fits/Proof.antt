@@ -1,6 +1,6 @@
 -- `desk::state::queue_fits` meets its contract. Assumes nothing.
 use Rattle.desk.proofs.Places.{place-good, place-bad, no-place}
-use Rattle.desk.specs.State.{slotFits, blank}
+use Rattle.desk.specs.State.{waitingFits, blank}
 use Rattle.laws.specs.Truth.{every}
 use Rattle.laws.proofs.Truths.{not-true, not-false}
 use lib.ListN.{length, take, drop}
@@ -12,7 +12,7 @@ use Rattle.desk.proofs.state.queue_fits.Statement.{statement}
 use Rattle.desk.proofs.state.queue_fits.Tie as tie
 
 abbrev Inv-loop : tie.InvT-loop
-Inv-loop line n queue i₀ i = (i ≤ n) × (every (slotFits line) (drop i (take n queue)) ≡ every (slotFits line) (take n queue))
+Inv-loop line n queue i₀ i = (i ≤ n) × (every (waitingFits line) (drop i (take n queue)) ≡ every (waitingFits line) (take n queue))
 
 abbrev μ-loop : tie.MeasureT-loop
 μ-loop line n queue i₀ i = n - i
@@ -20,11 +20,11 @@ abbrev μ-loop : tie.MeasureT-loop
 loop-holds : tie.Need-loop-holds Inv-loop μ-loop
 loop-holds c = (omega arith, refl)
 
-mul-slot : tie.Need-mul-slot Inv-loop μ-loop
-mul-slot c = search needs
+mul-waiting : tie.Need-mul-waiting Inv-loop μ-loop
+mul-waiting c = search needs
 
-array-copy-out-slot : tie.Need-array-copy-out-slot Inv-loop μ-loop
-array-copy-out-slot c = search needs
+array-copy-out-waiting : tie.Need-array-copy-out-waiting Inv-loop μ-loop
+array-copy-out-waiting c = search needs
 
 may-reply-requires : tie.Need-may-reply-requires Inv-loop μ-loop
 may-reply-requires c κs = search needs
@@ -33,7 +33,7 @@ returns : tie.Need-returns Inv-loop μ-loop
 returns c = let a = c .before .before .before .before .before .args in
     let l = c .before .before .before .before .loop in
     let w : length (a .t2) ≡ 8 = search needs in
-    sym (place-bad (slotFits (a .line)) (a .t2) (a .n) (l .i) blank (c .before .before .before .loop-test .taken) (omega arith) (sym (c .before .may-reply .ensures) ∙ not-true _ (c .if1 .taken))) ∙ l .inv .1
+    sym (place-bad (waitingFits (a .line)) (a .t2) (a .n) (l .i) blank (c .before .before .before .loop-test .taken) (omega arith) (sym (c .before .may-reply .ensures) ∙ not-true _ (c .if1 .taken))) ∙ l .inv .1
 
 add-i : tie.Need-add-i Inv-loop μ-loop
 add-i c = search needs
@@ -45,13 +45,13 @@ loop-again : tie.Need-loop-again Inv-loop μ-loop
 loop-again c = let a = c .before .before .before .before .before .args in
     let l = c .before .before .before .before .loop in
     let w : length (a .t2) ≡ 8 = search needs in
-    (omega arith, place-good (slotFits (a .line)) (a .t2) (a .n) (l .i) blank (c .before .before .before .loop-test .taken) (omega arith) (sym (c .before .may-reply .ensures) ∙ not-false _ (c .if1 .left)) ∙ l .inv .1)
+    (omega arith, place-good (waitingFits (a .line)) (a .t2) (a .n) (l .i) blank (c .before .before .before .loop-test .taken) (omega arith) (sym (c .before .may-reply .ensures) ∙ not-false _ (c .if1 .left)) ∙ l .inv .1)
 
 returns-2 : tie.Need-returns-2 Inv-loop μ-loop
 returns-2 c = let a = c .before .before .args in
     let l = c .before .loop in
     let w : length (a .t2) ≡ 8 = search needs in
-    sym (no-place (slotFits (a .line)) (a .t2) (a .n) (l .i) (omega arith) (omega arith)) ∙ l .inv .1
+    sym (no-place (waitingFits (a .line)) (a .t2) (a .n) (l .i) (omega arith) (omega arith)) ∙ l .inv .1
 
 pub queue-fits-spec : {M : Type 1} → statement M
 queue-fits-spec =
@@ -60,8 +60,8 @@ queue-fits-spec =
     Inv-loop
     μ-loop
     loop-holds
-    mul-slot
-    array-copy-out-slot
+    mul-waiting
+    array-copy-out-waiting
     may-reply-requires
     returns
     add-i

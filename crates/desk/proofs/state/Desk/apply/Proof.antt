@@ -10,7 +10,7 @@ enum-known-rule-2 : tie.Need-enum-known-rule-2
 enum-known-rule-2 c = search needs
 
 fault-requires : tie.Need-fault-requires
-fault-requires c κs = (c .before .before .before .before .before .pre .0, rw (c .before .before .rule2 .given .1) at (c .before .before .before .before .before .pre .1), c .before .before .before .before .before .pre .2)
+fault-requires c κs = let p = c .before .before .before .before .before .pre in (p .0, rw (c .before .before .rule2 .given .1) at (p .1), p .2)
 
 enum-told : tie.Need-enum-told
 enum-told c = search needs
@@ -22,7 +22,7 @@ enum-known-rule-3 : tie.Need-enum-known-rule-3
 enum-known-rule-3 c = search needs
 
 handle-requires : tie.Need-handle-requires
-handle-requires c κs = (c .before .before .before .before .before .pre .0, rw (c .before .before .rule3 .given .1) at (c .before .before .before .before .before .pre .1), c .before .before .before .before .before .pre .2)
+handle-requires c κs = let p = c .before .before .before .before .before .pre in (p .0, rw (c .before .before .rule3 .given .1) at (p .1), p .2)
 
 returns : tie.Need-returns
 returns c = rw (c .before .rule .given .1)

@@ -1,6 +1,6 @@
 -- `desk::state::Desk::hear` meets its contract. Assumes nothing.
 use Rattle.desk.proofs.Ranges.{noted-ranges}
-use Rattle.desk.proofs.Numbers.{ruling-number}
+use Rattle.deciding.proofs.Numbers.{ruling-number}
 use Rattle.desk.proofs.Sendings.{hear-state, hear-room, hear-applied}
 use Rattle.laws.proofs.Truths.{not-true, not-false}
 use denote.Ref.{now}
@@ -13,10 +13,11 @@ in-ranges-requires : tie.Need-in-ranges-requires
 in-ranges-requires c κs = search needs
 
 returns : tie.Need-returns
-returns c = hear-state (c .before .before .before .before .args .self) (c .before .before .before .before .args .at) (now (c .before .before .before .before .args .frame)) (now (c .before .before .before .before .args .out)) (sym (c .before .in-ranges .ensures) ∙ not-true _ (c .if1 .taken))
+returns c = let a = c .before .before .before .before .args in hear-state (a .self) (a .at) (now (a .frame)) (now (a .out)) (sym (c .before .in-ranges .ensures) ∙ not-true _ (c .if1 .taken))
 
 returns-2 : tie.Need-returns-2
-returns-2 c = hear-room (c .before .before .before .before .before .args .self) (c .before .before .before .before .before .args .at) (now (c .before .before .before .before .before .args .frame)) (now (c .before .before .before .before .before .args .out)) (sym (c .before .before .in-ranges .ensures) ∙ not-false _ (c .before .if1 .left)) (c .if2 .taken)
+returns-2 c = let a = c .before .before .before .before .before .args in
+    hear-room (a .self) (a .at) (now (a .frame)) (now (a .out)) (sym (c .before .before .in-ranges .ensures) ∙ not-false _ (c .before .if1 .left)) (c .if2 .taken)
 
 loses-requires : tie.Need-loses-requires
 loses-requires c κs = search needs
@@ -28,13 +29,20 @@ decide-requires : tie.Need-decide-requires
 decide-requires c κs = search needs
 
 apply-requires : tie.Need-apply-requires
-apply-requires c κs = (rw (c .before .before .noted .ensures) (noted-ranges (c .before .before .before .before .before .before .before .before .before .args .self) _ (sym (c .before .before .before .before .before .before .in-ranges .ensures) ∙ not-false _ (c .before .before .before .before .before .if1 .left))), rw (c .before .decide .ensures) (ruling-number _ _), c .before .before .before .before .if2 .left)
+apply-requires c κs =
+    let a = c .before .before .before .before .before .before .before .before .before .before .args in
+    let r = sym (c .before .before .before .before .before .before .before .in-ranges .ensures) ∙ not-false _ (c .before .before .before .before .before .before .if1 .left) in
+    (rw (c .before .before .before .noted .ensures) (noted-ranges (a .self) _ r), rw (c .before .decide .ensures) (ruling-number _ _ _ _), c .before .before .before .before .before .if2 .left)
 
 same-length : tie.Need-same-length
 same-length c = search needs
 
 returns-3 : tie.Need-returns-3
-returns-3 c = c .before .before .apply .ensures ∙ hear-applied (c .before .before .before .before .before .before .before .before .before .before .before .before .args .self) (c .before .before .before .before .before .before .before .before .before .before .before .before .args .at) (now (c .before .before .before .before .before .before .before .before .before .before .before .before .args .frame)) (now (c .before .before .before .before .before .before .before .before .before .before .before .before .args .out)) (sym (c .before .before .before .before .before .before .before .before .before .in-ranges .ensures) ∙ not-false _ (c .before .before .before .before .before .before .before .before .if1 .left)) (c .before .before .before .before .before .before .before .if2 .left) _ (c .before .before .before .before .before .before .loses .ensures) _ (c .before .before .before .before .before .noted .ensures) _ (c .before .before .before .before .decide .ensures)
+returns-3 c =
+    let a = c .before .before .before .before .before .before .before .before .before .before .before .before .before .args in
+    let r = sym (c .before .before .before .before .before .before .before .before .before .before .in-ranges .ensures) ∙ not-false _ (c .before .before .before .before .before .before .before .before .before .if1 .left) in
+    c .before .before .apply .ensures
+    ∙ hear-applied (a .self) (a .at) (now (a .frame)) (now (a .out)) r (c .before .before .before .before .before .before .before .before .if2 .left) _ (c .before .before .before .before .before .before .before .loses .ensures) _ (c .before .before .before .before .before .before .noted .ensures) _ (c .before .before .before .before .decide .ensures)
 
 pub hear-spec : {M : Type 1} → statement M
 hear-spec =

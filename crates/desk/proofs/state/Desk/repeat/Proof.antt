@@ -34,9 +34,7 @@ same-length c = search needs
 
 returns : tie.Need-returns
 returns c = let a = c .before .before .before .before .before .before .before .args in
-    let h : length (a .self .stored) ≡ 66 = search needs in
-    let k : a .self .kept ≤ 66 = kept-most _ _ (ranges-parts (a .self) (c .before .before .before .before .before .before .before .pre .0) .stocked) in
-    repeat-sent (a .self) (now (a .out)) _ _ (omega arith) (c .before .before .copy .ensures .0) (c .before .before .copy .ensures .1)
+    repeat-sent (a .self) (now (a .out)) _ _ (c .before .before .copy .ensures .0) (c .before .before .copy .ensures .1)
 
 pub repeat-spec : {M : Type 1} → statement M
 repeat-spec =

@@ -13,7 +13,7 @@ enum-known-check : tie.Need-enum-known-check
 enum-known-check c = search needs
 
 returns : tie.Need-returns
-returns c = set-refused (c .before .before .before .before .args .self) (c .before .before .before .before .args .rec) _ _ (sym (ap faultOf (c .before .check .given .1)) ∙ c .before .before .before .record-check .ensures)
+returns c = set-refused (c .before .before .before .before .args .self) (c .before .before .before .before .args .rec) _ (sym (ap faultOf (c .before .check .given .1)) ∙ c .before .before .before .record-check .ensures)
 
 enum-told : tie.Need-enum-told
 enum-told c = search needs

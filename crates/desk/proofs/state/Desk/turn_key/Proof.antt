@@ -13,7 +13,7 @@ enum-known-check : tie.Need-enum-known-check
 enum-known-check c = search needs
 
 returns : tie.Need-returns
-returns c = key-refused (c .before .before .before .before .args .self) (c .before .before .before .before .args .key) _ _ (sym (ap faultOf (c .before .check .given .1)) ∙ c .before .before .before .key-check .ensures)
+returns c = key-refused (c .before .before .before .before .args .self) (c .before .before .before .before .args .key) _ (sym (ap faultOf (c .before .check .given .1)) ∙ c .before .before .before .key-check .ensures)
 
 enum-told : tie.Need-enum-told
 enum-told c = search needs

@@ -1,6 +1,6 @@
 -- `master::state::Master::hear` checks 15 and 14, and ignores a hearing while free and when T2 has run out. Assumes nothing.
-use mathlib.Core.Path.{sym, ap, _∙_}
 use denote.Ref.{now}
+use mathlib.Core.Path.{sym, ap, _∙_}
 use Rattle.reading.specs.Answers.{faultOf}
 use borrow.Author.Tests.{ne-eqb}
 use Rattle.master.proofs.Ranges.{passed}
@@ -19,7 +19,8 @@ refused-requires : tie.Need-refused-requires
 refused-requires c κs = search needs
 
 returns : tie.Need-returns
-returns c = hear-refused (c .before .before .before .before .before .before .before .args .self) (c .before .before .before .before .before .before .before .args .at) (now (c .before .before .before .before .before .before .before .args .frame)) (now (c .before .before .before .before .before .before .before .args .out)) _ (sym (ap faultOf (c .before .before .check .given .1)) ∙ c .before .before .before .before .call-check .ensures) (c .refused .result) (c .refused .ensures)
+returns c = let a = c .before .before .before .before .before .before .before .args in
+    hear-refused (a .self) (a .at) (now (a .frame)) (now (a .out)) _ (sym (ap faultOf (c .before .before .check .given .1)) ∙ c .before .before .before .before .call-check .ensures) _ (c .refused .ensures)
 
 enum-told : tie.Need-enum-told
 enum-told c = search needs
@@ -28,10 +29,8 @@ ignored-requires : tie.Need-ignored-requires
 ignored-requires c κs = search needs
 
 returns-2 : tie.Need-returns-2
-returns-2 c = hear-free (c .before .before .before .before .before .before .before .before .args .self) (c .before .before .before .before .before .before .before .before .args .at) (now (c .before .before .before .before .before .before .before .before .args .frame)) (now (c .before .before .before .before .before .before .before .before .args .out)) (sym (ap faultOf (c .before .before .before .enum-told .given .1)) ∙ c .before .before .before .before .before .call-check .ensures) (c .before .if1 .taken) (c .ignored .result) (c .ignored .ensures)
-
-t2-limit-requires : tie.Need-t2-limit-requires
-t2-limit-requires c κs = search needs
+returns-2 c = let a = c .before .before .before .before .before .before .before .before .args in
+    hear-free (a .self) (a .at) (now (a .frame)) (now (a .out)) (sym (ap faultOf (c .before .before .before .enum-told .given .1)) ∙ c .before .before .before .before .before .call-check .ensures) (c .before .if1 .taken) _ (c .ignored .ensures)
 
 run-out-requires : tie.Need-run-out-requires
 run-out-requires c κs = search needs
@@ -40,16 +39,28 @@ ignored-requires-2 : tie.Need-ignored-requires-2
 ignored-requires-2 c κs = search needs
 
 returns-3 : tie.Need-returns-3
-returns-3 c = hear-late (c .before .before .before .before .before .before .before .before .before .before .before .args .self) (c .before .before .before .before .before .before .before .before .before .before .before .args .at) (now (c .before .before .before .before .before .before .before .before .before .before .before .args .frame)) (now (c .before .before .before .before .before .before .before .before .before .before .before .args .out)) (sym (ap faultOf (c .before .before .before .before .before .before .enum-told .given .1)) ∙ c .before .before .before .before .before .before .before .before .call-check .ensures) (c .before .before .before .before .if1 .left) (c .before .before .before .t2-limit .result) (c .before .before .before .t2-limit .ensures) (sym (c .before .before .run-out .ensures) ∙ c .before .if2 .taken) (c .ignored2 .result) (c .ignored2 .ensures)
+returns-3 c = let a = c .before .before .before .before .before .before .before .before .before .before .args in
+    hear-late (a .self) (a .at) (now (a .frame)) (now (a .out)) (sym (ap faultOf (c .before .before .before .before .before .enum-told .given .1)) ∙ c .before .before .before .before .before .before .before .call-check .ensures) (c .before .before .before .if1 .left) (sym (c .before .before .run-out .ensures) ∙ c .before .if2 .taken) _ (c .ignored2 .ensures)
 
-hear-frame-requires : tie.Need-hear-frame-requires
-hear-frame-requires c κs = let g = passed (c .before .before .before .before .before .before .before .before .before .before .before .args .self) _ (sym (ap faultOf (c .before .before .before .before .before .before .enum-told .given .1)) ∙ c .before .before .before .before .before .before .before .before .call-check .ensures) in (g .0, (ne-eqb _ _ (c .before .before .before .before .if1 .left), g .1))
+type-of-requires : tie.Need-type-of-requires
+type-of-requires c κs = search needs
+
+judge-requires : tie.Need-judge-requires
+judge-requires c κs = search needs
+
+settle-requires : tie.Need-settle-requires
+settle-requires c κs = let a = c .before .before .before .before .before .before .before .before .before .before .before .before .before .args in
+    let p = passed (a .self) _ (sym (ap faultOf (c .before .before .before .before .before .before .before .before .enum-told .given .1)) ∙ c .before .before .before .before .before .before .before .before .before .before .call-check .ensures) in
+    (p .0, (ne-eqb _ _ (c .before .before .before .before .before .before .if1 .left), p .1))
 
 same-length : tie.Need-same-length
 same-length c = search needs
 
 returns-4 : tie.Need-returns-4
-returns-4 c = c .before .before .hear-frame .ensures ∙ hear-heard (c .before .before .before .before .before .before .before .before .before .before .before .before .before .before .args .self) (c .before .before .before .before .before .before .before .before .before .before .before .before .before .before .args .at) (now (c .before .before .before .before .before .before .before .before .before .before .before .before .before .before .args .frame)) (now (c .before .before .before .before .before .before .before .before .before .before .before .before .before .before .args .out)) (sym (ap faultOf (c .before .before .before .before .before .before .before .before .before .enum-told .given .1)) ∙ c .before .before .before .before .before .before .before .before .before .before .before .call-check .ensures) (c .before .before .before .before .before .before .before .if1 .left) (c .before .before .before .before .before .before .t2-limit .result) (c .before .before .before .before .before .before .t2-limit .ensures) (sym (c .before .before .before .before .before .run-out .ensures) ∙ c .before .before .before .before .if2 .left)
+returns-4 c = let a = c .before .before .before .before .before .before .before .before .before .before .before .before .before .before .before .before .args in
+    let k = sym (ap faultOf (c .before .before .before .before .before .before .before .before .before .before .before .enum-told .given .1)) ∙ c .before .before .before .before .before .before .before .before .before .before .before .before .before .call-check .ensures in
+    c .before .before .settle .ensures
+    ∙ hear-heard (a .self) (a .at) (now (a .frame)) (now (a .out)) k (c .before .before .before .before .before .before .before .before .before .if1 .left) (sym (c .before .before .before .before .before .before .before .before .run-out .ensures) ∙ c .before .before .before .before .before .before .before .if2 .left) _ (c .before .before .before .before .before .type-of .ensures) _ (c .before .before .before .before .judge .ensures)
 
 pub hear-spec : {M : Type 1} → statement M
 hear-spec =
@@ -62,10 +73,11 @@ hear-spec =
     enum-told
     ignored-requires
     returns-2
-    t2-limit-requires
     run-out-requires
     ignored-requires-2
     returns-3
-    hear-frame-requires
+    type-of-requires
+    judge-requires
+    settle-requires
     same-length
     returns-4)

@@ -5,8 +5,11 @@ use borrow.Author.Needs.{needs}
 use Rattle.master.proofs.state.Master.send.Statement.{statement}
 use Rattle.master.proofs.state.Master.send.Tie as tie
 
-put-requires : tie.Need-put-requires
-put-requires c κs = search needs
+value-requires : tie.Need-value-requires
+value-requires c κs = search needs
+
+send-requires : tie.Need-send-requires
+send-requires c κs = search needs
 
 after-sending-requires : tie.Need-after-sending-requires
 after-sending-requires c κs = search needs
@@ -15,7 +18,9 @@ same-length : tie.Need-same-length
 same-length c = search needs
 
 returns : tie.Need-returns
-returns c = sent-off (c .before .before .before .before .before .before .before .args .sending) (c .before .before .before .before .before .before .before .args .self) (c .after-sending .result) (c .before .before .before .before .before .before .before .args .rec) (c .before .before .before .before .before .before .before .args .count) (c .before .before .before .before .before .before .before .args .at) (c .before .before .before .put .result) (now (c .before .before .before .before .before .before .before .args .out)) _ (c .after-sending .ensures) (c .before .before .before .put .ensures)
+returns c = let s = c .before .before .before .before .before .before .before .before in let a = s .args in
+    sent-off (a .sending) (a .self) _ (a .rec) (a .count) (a .at) _ _ (now (a .out)) _ (s .pre .0) (s .pre .1 .0) (s .pre .1 .1) (c .after-sending .ensures) (c .before .before .before .before .before .value .ensures) (c .before .before .before .send .ensures)
 
 pub send-spec : {M : Type 1} → statement M
-send-spec = tie.close (tie.spec put-requires after-sending-requires same-length returns)
+send-spec =
+    tie.close (tie.spec value-requires send-requires after-sending-requires same-length returns)

@@ -1,6 +1,6 @@
--- `master::state::Master::t0_limit` is the limit that its definition names. Assumes nothing.
+-- `master::state::Master::t0_limit` meets its contract. Assumes nothing.
 use mathlib.Core.Path.{refl}
-use Rattle.master.specs.Rules.{t0Limit}
+use Rattle.master.specs.Sending.{t0Limit}
 use Rattle.master.proofs.state.Master.t0_limit.Statement.{statement}
 use Rattle.master.proofs.state.Master.t0_limit.Tie as tie
 

@@ -7,14 +7,11 @@ use borrow.Author.Needs.{needs}
 use Rattle.master.proofs.state.Master.wait.Statement.{statement}
 use Rattle.master.proofs.state.Master.wait.Tie as tie
 
-t2-limit-requires : tie.Need-t2-limit-requires
-t2-limit-requires c κs = search needs
-
 run-out-requires : tie.Need-run-out-requires
 run-out-requires c κs = search needs
 
 returns : tie.Need-returns
-returns c = waits (c .before .before .before .before .args .self) (c .before .before .before .before .args .at) (now (c .before .before .before .before .args .out)) (c .before .before .t2-limit .result) (c .before .before .t2-limit .ensures) (sym (c .before .run-out .ensures) ∙ not-true _ (c .if1 .taken))
+returns c = let a = c .before .before .before .args in waits (a .self) (a .at) (now (a .out)) (sym (c .before .run-out .ensures) ∙ not-true _ (c .if1 .taken))
 
 fail-requires : tie.Need-fail-requires
 fail-requires c κs = search needs
@@ -23,9 +20,8 @@ same-length : tie.Need-same-length
 same-length c = search needs
 
 returns-2 : tie.Need-returns-2
-returns-2 c = c .before .before .fail .ensures ∙ silent (c .before .before .before .before .before .before .before .before .args .self) (c .before .before .before .before .before .before .before .before .args .at) (now (c .before .before .before .before .before .before .before .before .args .out)) (c .before .before .before .before .before .before .t2-limit .result) (c .before .before .before .before .before .before .t2-limit .ensures) (sym (c .before .before .before .before .before .run-out .ensures) ∙ not-false _ (c .before .before .before .before .if1 .left))
+returns-2 c = let a = c .before .before .before .before .before .before .before .args in
+    c .before .before .fail .ensures ∙ silent (a .self) (a .at) (now (a .out)) (sym (c .before .before .before .before .before .run-out .ensures) ∙ not-false _ (c .before .before .before .before .if1 .left))
 
 pub wait-spec : {M : Type 1} → statement M
-wait-spec =
-    tie.close
-    (tie.spec t2-limit-requires run-out-requires returns fail-requires same-length returns-2)
+wait-spec = tie.close (tie.spec run-out-requires returns fail-requires same-length returns-2)

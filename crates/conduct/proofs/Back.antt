@@ -1,0 +1,47 @@
+-- Stands in until records passes these on. Assumes nothing.
+use mathlib.Core.Path.{_≡_, refl}
+use mathlib.Core.Bool.{cond}
+use lib.Dec.{eqb}
+use Rattle.records.specs.Refusals.{No, refusalOf}
+use Rattle.records.specs.declared.refusals.Refusal.{Refusal}
+use Rattle.records.specs.declared.refusals.Refusal.the-variants.{Short, Long, NoStart, Count, NoEnd, Checksum, Number, Kind, Character, Form, Value, NotSent, Range, NoRoom, State, Busy, Full}
+
+-- the refusal of a number and place
+abbrev pub backOf : No → Refusal
+backOf x =
+    cond (eqb (x .number) 1) Short
+    (cond (eqb (x .number) 2) Long
+    (cond (eqb (x .number) 3) NoStart
+    (cond (eqb (x .number) 4) Count
+    (cond (eqb (x .number) 5) (NoEnd (x .place))
+    (cond (eqb (x .number) 6) (Checksum (x .place))
+    (cond (eqb (x .number) 7) Number
+    (cond (eqb (x .number) 8) Kind
+    (cond (eqb (x .number) 9) (Character (x .place))
+    (cond (eqb (x .number) 10) (Form (x .place))
+    (cond (eqb (x .number) 11) (Value (x .place))
+    (cond (eqb (x .number) 12) NotSent
+    (cond (eqb (x .number) 13) Range
+    (cond (eqb (x .number) 14) NoRoom
+    (cond (eqb (x .number) 15) State
+    (cond (eqb (x .number) 16) Busy Full)))))))))))))))
+
+-- each refusal comes back from its number and place
+pub refusal-back : (x : Refusal) → backOf (refusalOf x) ≡ x
+refusal-back Short = refl
+refusal-back Long = refl
+refusal-back NoStart = refl
+refusal-back Count = refl
+refusal-back (NoEnd place) = refl
+refusal-back (Checksum place) = refl
+refusal-back Number = refl
+refusal-back Kind = refl
+refusal-back (Character place) = refl
+refusal-back (Form place) = refl
+refusal-back (Value place) = refl
+refusal-back NotSent = refl
+refusal-back Range = refl
+refusal-back NoRoom = refl
+refusal-back State = refl
+refusal-back Busy = refl
+refusal-back Full = refl

@@ -1,0 +1,55 @@
+-- `deciding::deciding::decide` meets its contract. Assumes nothing.
+use Rattle.deciding.proofs.Rulings.{when-accepted, when-refused}
+use Rattle.deciding.specs.Deciding.{What, goodFrame}
+use Rattle.reading.specs.Answers.{answerOf}
+use denote.Ref.{now}
+use mathlib.Core.Path.{sym, ap, _∙_}
+use borrow.Author.Needs.{needs}
+use Rattle.deciding.proofs.deciding.decide.Statement.{statement}
+use Rattle.deciding.proofs.deciding.decide.Tie as tie
+
+byte-at-requires : tie.Need-byte-at-requires
+byte-at-requires c κs = search needs
+
+read-requires : tie.Need-read-requires
+read-requires c κs = search needs
+
+enum-known-reading : tie.Need-enum-known-reading
+enum-known-reading c = search needs
+
+matter-of-requires : tie.Need-matter-of-requires
+matter-of-requires c κs = search needs
+
+on-good-requires : tie.Need-on-good-requires
+on-good-requires c κs = search needs
+
+enum-known-reading-2 : tie.Need-enum-known-reading-2
+enum-known-reading-2 c = search needs
+
+on-refused-requires : tie.Need-on-refused-requires
+on-refused-requires c κs = search needs
+
+returns : tie.Need-returns
+returns c = let a = c .before .before .before .before .before .before .before .before .args in let k = c .before .before .before .reading .given in
+    c .on-good .ensures
+    ∙ ap (λ (w : What). goodFrame (a .good) (a .last .0) (k .0 .1 .0) w) (c .before .matter-of .ensures)
+    ∙ when-accepted (a .line) (a .good) (a .last .0) (now (a .frame)) _ _ (sym (ap answerOf (k .1)) ∙ c .before .before .before .before .before .read .ensures)
+
+returns-2 : tie.Need-returns-2
+returns-2 c = let a = c .before .before .before .before .before .before .before .args in
+    c .on-refused .ensures
+    ∙ when-refused (a .line) (a .good) (a .last .0) (now (a .frame)) _ _ (sym (ap answerOf (c .before .before .reading2 .given .1)) ∙ c .before .before .before .before .read .ensures) (c .before .before .before .before .before .byte-at .ensures)
+
+pub decide-spec : {M : Type 1} → statement M
+decide-spec =
+    tie.close
+    (tie.spec
+    byte-at-requires
+    read-requires
+    enum-known-reading
+    matter-of-requires
+    on-good-requires
+    enum-known-reading-2
+    on-refused-requires
+    returns
+    returns-2)

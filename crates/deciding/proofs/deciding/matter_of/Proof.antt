@@ -1,0 +1,32 @@
+-- `deciding::deciding::matter_of` meets its contract. Assumes nothing.
+use Rattle.deciding.proofs.Rulings.{not-master, a-request, a-poll, another}
+use Rattle.laws.proofs.Truths.{not-true, not-false}
+use mathlib.Core.Path.{sym, _∙_}
+use borrow.Author.Needs.{needs}
+use Rattle.deciding.proofs.deciding.matter_of.Statement.{statement}
+use Rattle.deciding.proofs.deciding.matter_of.Tie as tie
+
+type-of-requires : tie.Need-type-of-requires
+type-of-requires c κs = search needs
+
+by-master-requires : tie.Need-by-master-requires
+by-master-requires c κs = search needs
+
+returns : tie.Need-returns
+returns c = let a = c .before .before .before .args in not-master (a .line) (a .rec) _ (c .before .before .type-of .ensures) (sym (c .before .by-master .ensures) ∙ not-true _ (c .if1 .taken))
+
+returns-2 : tie.Need-returns-2
+returns-2 c = let a = c .before .before .before .before .args in
+    a-request (a .line) (a .rec) _ (c .before .before .before .type-of .ensures) (sym (c .before .before .by-master .ensures) ∙ not-false _ (c .before .if1 .left)) (c .if2 .taken)
+
+returns-3 : tie.Need-returns-3
+returns-3 c = let a = c .before .before .before .before .before .args in
+    a-poll (a .line) (a .rec) _ (c .before .before .before .before .type-of .ensures) (sym (c .before .before .before .by-master .ensures) ∙ not-false _ (c .before .before .if1 .left)) (c .before .if2 .left) (c .if3 .taken)
+
+returns-4 : tie.Need-returns-4
+returns-4 c = let a = c .before .before .before .before .before .args in
+    another (a .line) (a .rec) _ (c .before .before .before .before .type-of .ensures) (sym (c .before .before .before .by-master .ensures) ∙ not-false _ (c .before .before .if1 .left)) (c .before .if2 .left) (c .if3 .left)
+
+pub matter-of-spec : {M : Type 1} → statement M
+matter-of-spec =
+    tie.close (tie.spec type-of-requires by-master-requires returns returns-2 returns-3 returns-4)

@@ -1,0 +1,59 @@
+-- `deciding::deciding::on_refused` meets its contract. Assumes nothing.
+use Rattle.deciding.proofs.Rulings.{bad-sum, bad-sum-byte, bad-low, bad-high, bad-contents}
+use Rattle.records.specs.Refusals.{refusalOf}
+use native.Mathlib.Omega.{arith}
+use mathlib.Core.Path.{sym, _∙_}
+use borrow.Author.Needs.{needs}
+use Rattle.deciding.proofs.deciding.on_refused.Statement.{statement}
+use Rattle.deciding.proofs.deciding.on_refused.Tie as tie
+
+number-of-requires : tie.Need-number-of-requires
+number-of-requires c κs = search needs
+
+is-number-requires : tie.Need-is-number-requires
+is-number-requires c κs = search needs
+
+number-in-requires : tie.Need-number-in-requires
+number-in-requires c κs = search needs
+
+returns : tie.Need-returns
+returns c = let a = c .before .before .before .before .before .args in
+    bad-sum (a .good) (a .last .0) _ (a .byte) (sym (c .before .before .before .before .number-of .ensures) ∙ c .before .before .before .if1 .taken) (sym (c .before .before .is-number .ensures) ∙ c .before .if2 .taken) _ (c .number-in .ensures)
+
+returns-2 : tie.Need-returns-2
+returns-2 c = let a = c .before .before .before .before .args in
+    bad-sum-byte (a .good) (a .last .0) _ (a .byte) (sym (c .before .before .before .number-of .ensures) ∙ c .before .before .if1 .taken) (sym (c .before .is-number .ensures) ∙ c .if2 .left)
+
+returns-3 : tie.Need-returns-3
+returns-3 c = let a = c .before .before .before .args in let k = c .before .before .number-of .ensures in
+    bad-low (a .good) (a .last .0) _ (a .byte) (λ e. c .before .if1 .left (k ∙ e)) (omega (arith, k))
+
+returns-4 : tie.Need-returns-4
+returns-4 c = let a = c .before .before .before .before .args in let k = c .before .before .before .number-of .ensures in
+    bad-high (a .good) (a .last .0) _ (a .byte) (λ e. c .before .before .if1 .left (k ∙ e)) (omega (arith, k))
+
+number-in-requires-2 : tie.Need-number-in-requires-2
+number-in-requires-2 c κs = search needs
+
+on-good-requires : tie.Need-on-good-requires
+on-good-requires c κs = search needs
+
+returns-5 : tie.Need-returns-5
+returns-5 c = let a = c .before .before .before .before .before .before .args in let k = c .before .before .before .before .before .number-of .ensures in
+    c .on-good .ensures
+    ∙ bad-contents (a .good) (a .last .0) (refusalOf (a .refusal)) (a .byte) (λ e. c .before .before .before .before .if1 .left (k ∙ e)) (omega (arith, k)) (omega (arith, k)) _ (c .before .number-in2 .ensures)
+
+pub on-refused-spec : {M : Type 1} → statement M
+on-refused-spec =
+    tie.close
+    (tie.spec
+    number-of-requires
+    is-number-requires
+    number-in-requires
+    returns
+    returns-2
+    returns-3
+    returns-4
+    number-in-requires-2
+    on-good-requires
+    returns-5)

@@ -1,0 +1,37 @@
+-- `judging::judging::on_record` meets its contract. Assumes nothing.
+use Rattle.judging.proofs.Verdicts.{by-failure, by-permitted, by-other}
+use mathlib.Core.Path.{sym, _∙_}
+use borrow.Author.Needs.{needs}
+use Rattle.judging.proofs.judging.on_record.Statement.{statement}
+use Rattle.judging.proofs.judging.on_record.Tie as tie
+
+is-failure-requires : tie.Need-is-failure-requires
+is-failure-requires c κs = search needs
+
+returns : tie.Need-returns
+returns c = let a = c .before .before .args in by-failure (a .line) (a .sent) (a .rec) (a .number) (sym (c .before .is-failure .ensures) ∙ c .if1 .taken)
+
+type-of-requires : tie.Need-type-of-requires
+type-of-requires c κs = search needs
+
+permitted-answer-requires : tie.Need-permitted-answer-requires
+permitted-answer-requires c κs = search needs
+
+returns-2 : tie.Need-returns-2
+returns-2 c = let a = c .before .before .before .before .before .args in
+    by-permitted (a .line) (a .sent) (a .rec) (a .number) (sym (c .before .before .before .before .is-failure .ensures) ∙ c .before .before .before .if1 .left) _ (c .before .before .type-of .ensures) (sym (c .before .permitted-answer .ensures) ∙ c .if2 .taken)
+
+returns-3 : tie.Need-returns-3
+returns-3 c = let a = c .before .before .before .before .before .args in
+    by-other (a .line) (a .sent) (a .rec) (a .number) (sym (c .before .before .before .before .is-failure .ensures) ∙ c .before .before .before .if1 .left) _ (c .before .before .type-of .ensures) (sym (c .before .permitted-answer .ensures) ∙ c .if2 .left)
+
+pub on-record-spec : {M : Type 1} → statement M
+on-record-spec =
+    tie.close
+    (tie.spec
+    is-failure-requires
+    returns
+    type-of-requires
+    permitted-answer-requires
+    returns-2
+    returns-3)

@@ -1,0 +1,31 @@
+-- The poll, failed sendings and the permitted answers (01 'Link rules'). Assumes nothing.
+use Prim.Native.Nat.{ℕ}
+use Prim.Native.Char.{code}
+use mathlib.Core.Bool.{Bool, cond}
+use mathlib.Core.List.{List, _∷_}
+use lib.Dec.{eqb}
+use lib.ListN.{getD}
+use Rattle.laws.specs.Truth.{both, oneOf}
+use Rattle.laws.specs.Text.{codes}
+use Rattle.forms.specs.Forms.{dataType}
+use Rattle.records.specs.Records.{typeOf, valuesOf}
+use Rattle.records.specs.declared.records.Record.{Record}
+use Rattle.records.specs.declared.records.Record.the-variants.{Request, Idling}
+
+-- the poll: t, on line 1 r for B
+unfoldable pub pollOf : ℕ → Record
+pollOf line = cond (eqb line 1) (Request (code "B")) (Idling (code "t"))
+
+-- N with 1 or 2 is a failed sending
+unfoldable pub isFailure : Record → Bool
+isFailure rec = both (eqb (typeOf rec) (code "N")) (oneOf (codes "12") (getD (valuesOf rec) 0 0))
+
+-- permitted: to r the wanted type or N; to t the slave's data type, A or N; to others A or N
+unfoldable pub answersTo : ℕ → ℕ → List ℕ
+answersTo line sent =
+    cond (eqb sent (code "r")) (dataType line ∷ codes "N")
+    (cond (eqb sent (code "t")) (dataType line ∷ codes "AN")
+    (codes "AN"))
+
+unfoldable pub permittedAnswer : ℕ → ℕ → ℕ → Bool
+permittedAnswer line sent got = oneOf (answersTo line sent) got

@@ -1,0 +1,85 @@
+-- `master::state::Master::settle` does with a verdict what its definition says. Assumes nothing.
+use denote.Ref.{now}
+use mathlib.Core.Path.{sym, _∙_}
+use Rattle.master.proofs.Ranges.{line-noted, line-noted-busy}
+use Rattle.master.proofs.Hears.{settle-bad, settle-other, settle-failed, settle-answered, settle-ended}
+use borrow.Author.Needs.{needs}
+use Rattle.master.proofs.state.Master.settle.Statement.{statement}
+use Rattle.master.proofs.state.Master.settle.Tie as tie
+
+with-line-requires : tie.Need-with-line-requires
+with-line-requires c κs = search needs
+
+enum-known-verdict : tie.Need-enum-known-verdict
+enum-known-verdict c = search needs
+
+ignored-requires : tie.Need-ignored-requires
+ignored-requires c κs = search needs
+
+enum-told : tie.Need-enum-told
+enum-told c = search needs
+
+ignored-requires-2 : tie.Need-ignored-requires-2
+ignored-requires-2 c κs = search needs
+
+enum-told-2 : tie.Need-enum-told-2
+enum-told-2 c = search needs
+
+fail-requires : tie.Need-fail-requires
+fail-requires c κs = let s = c .before .before .before .before .before in let m = s .args .self in let e = c .before .before .before .with-line .ensures in
+    (line-noted m _ _ e (s .pre .0), (line-noted-busy m _ _ e (s .pre .1 .0), s .pre .1 .1))
+
+enum-known-verdict-2 : tie.Need-enum-known-verdict-2
+enum-known-verdict-2 c = search needs
+
+answered-requires : tie.Need-answered-requires
+answered-requires c κs = search needs
+
+enum-known-verdict-3 : tie.Need-enum-known-verdict-3
+enum-known-verdict-3 c = search needs
+
+other-kind-requires : tie.Need-other-kind-requires
+other-kind-requires c κs = search needs
+
+returns : tie.Need-returns
+returns c = let a = c .before .before .before .before .before .before .args in settle-bad (a .self) (a .at) (now (a .out)) (a .verdict) _ (c .before .before .verdict .given .1) _ (c .ignored .ensures)
+
+returns-2 : tie.Need-returns-2
+returns-2 c = let a = c .before .before .before .before .before .args in settle-other (a .self) (a .at) (now (a .out)) (a .verdict) (c .before .enum-told .given .1) _ (c .ignored2 .ensures)
+
+same-length : tie.Need-same-length
+same-length c = search needs
+
+returns-3 : tie.Need-returns-3
+returns-3 c = let a = c .before .before .before .before .before .before .before .before .args in
+    c .before .before .fail .ensures ∙ settle-failed (a .self) (a .at) (now (a .out)) (a .verdict) _ (c .before .before .before .before .before .before .with-line .ensures) (c .before .before .before .before .enum-told2 .given .1)
+
+returns-4 : tie.Need-returns-4
+returns-4 c = let a = c .before .before .before .before .before .before .args in
+    settle-answered (a .self) (a .at) (now (a .out)) (a .verdict) _ (c .before .before .before .before .with-line .ensures) _ (c .before .before .verdict2 .given .1) _ (c .answered .ensures)
+
+returns-5 : tie.Need-returns-5
+returns-5 c = let a = c .before .before .before .before .before .before .args in
+    settle-ended (a .self) (a .at) (now (a .out)) (a .verdict) _ (c .before .before .before .before .with-line .ensures) _ (c .before .before .verdict3 .given .1) (c .other-kind .result) (c .other-kind .ensures)
+
+pub settle-spec : {M : Type 1} → statement M
+settle-spec =
+    tie.close
+    (tie.spec
+    with-line-requires
+    enum-known-verdict
+    ignored-requires
+    enum-told
+    ignored-requires-2
+    enum-told-2
+    fail-requires
+    enum-known-verdict-2
+    answered-requires
+    enum-known-verdict-3
+    other-kind-requires
+    returns
+    returns-2
+    same-length
+    returns-3
+    returns-4
+    returns-5)

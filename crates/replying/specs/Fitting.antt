@@ -1,0 +1,30 @@
+-- Which records and key positions may answer on a line (01 'Link rules', 'Desk'). Assumes nothing.
+use Prim.Native.Nat.{ℕ}
+use Prim.Native.Char.{code}
+use mathlib.Core.Bool.{Bool, true, cond}
+use lib.Dec.{eqb}
+use Rattle.laws.specs.Truth.{both, oneOf}
+use Rattle.laws.specs.Text.{codes}
+use Rattle.forms.specs.Forms.{dataType}
+use Rattle.records.specs.Records.{typeOf}
+use Rattle.records.specs.declared.records.Record.{Record}
+use Rattle.values.specs.Values.{permitsRecord}
+use Rattle.replying.specs.declared.replying.Wanted.{Wanted}
+use Rattle.replying.specs.declared.replying.Wanted.the-variants.{None, Is}
+
+-- a record of the slave's data type on a line, with permitted values
+unfoldable pub mayReply : ℕ → Record → Bool
+mayReply line rec = both (eqb (typeOf rec) (dataType line)) (permitsRecord line rec)
+
+-- a key position is A, X or Y
+abbrev pub isKey : ℕ → Bool
+isKey key = oneOf (codes "AXY") key
+
+-- on line 3 each of them, on the others A
+unfoldable pub keyFits : ℕ → ℕ → Bool
+keyFits line key = cond (eqb line 3) (isKey key) (eqb key (code "A"))
+
+-- the record set for r, where one is set
+unfoldable pub wantedFits : ℕ → Wanted → Bool
+wantedFits line None = true
+wantedFits line (Is rec) = mayReply line rec
