@@ -13,5 +13,7 @@ use Rattle.reading.specs.Reading.{recordIn, checks, readingOf}
 use Rattle.papers.specs.Cases.{EveryCase}
 
 pub every-case : EveryCase
-unfolding numeralOn numberOn inSet total checksumOf checkText forms onLine lookIn formOf dataIn dataType slotsIn countOf slotsOf widthIn widthOf packetOf leadOf isDecimal permits valueOf permittedFrom permitted recordOf countText summedOf fieldOf frameChecks outside wrongLetter badValue valuesIn misshapen fieldChecks recordIn checks readingOf
+unfolding numeralOn numberOn inSet total checksumOf checkText forms onLine lookIn formOf dataIn dataType slotsIn countOf slotsOf widthIn widthOf
+    packetOf leadOf isDecimal permits valueOf permittedFrom permitted recordOf countText summedOf fieldOf frameChecks outside wrongLetter badValue
+    valuesIn misshapen fieldChecks recordIn checks readingOf
 every-case = (refl, (refl, (refl, (refl, (refl, (refl, (refl, (refl, (refl, (refl, tt))))))))))

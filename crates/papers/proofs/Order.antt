@@ -25,7 +25,8 @@ use Rattle.reading.proofs.Contents as contents
 use Rattle.papers.specs.Order.{EveryRefusal, EachOccurs, Eleven, RefusedFirst, AcceptedClean, NoLine}
 
 pub every-refusal : EveryRefusal
-unfolding numeralOn inSet total checksumOf checkText forms onLine lookIn formOf slotsIn countOf slotsOf widthIn widthOf packetOf permits permittedFrom permitted countText summedOf fieldOf frameChecks outside wrongLetter badValue misshapen fieldChecks checks readingOf
+unfolding numeralOn inSet total checksumOf checkText forms onLine lookIn formOf slotsIn countOf slotsOf widthIn widthOf packetOf permits permittedFrom
+    permitted countText summedOf fieldOf frameChecks outside wrongLetter badValue misshapen fieldChecks checks readingOf
 every-refusal = (refl, (refl, (refl, (refl, (refl, (refl, (refl, (refl, (refl, (refl, (refl, (refl, (refl, (refl, (refl, tt)))))))))))))))
 
 pub each-occurs : EachOccurs

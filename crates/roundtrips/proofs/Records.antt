@@ -56,7 +56,8 @@ radio-back : (k : Radio) (more : List ℕ) → (k .left < 256) × (k .right < 25
 radio-back k more h = rw (paired-left (k .left) (k .right) (h .0) (h .1), paired-right (k .left) (k .right) (h .0) (h .1))
 
 -- each value of permitted values is permitted
-value-at : (line kind i : ℕ) (ps : List Slot) (vs : List ℕ) → i < length ps → permitsValues line kind ps vs ≡ true → permitsValue line kind (getD ps i noSlot .letter) (getD ps i noSlot .len) (getD vs i 0) ≡ true
+value-at : (line kind i : ℕ) (ps : List Slot) (vs : List ℕ) → i < length ps → permitsValues line kind ps vs ≡ true
+    → permitsValue line kind (getD ps i noSlot .letter) (getD ps i noSlot .len) (getD vs i 0) ≡ true
 value-at line kind i [] vs b h = absurd (omega arith)
 value-at line kind zero (p ∷ ps) vs b h = first-value line kind p ps vs h
 value-at line kind (suc i) (p ∷ ps) [] b h = value-at line kind i ps [] (omega arith) (more-values line kind p ps [] h)
@@ -125,8 +126,25 @@ Again f = (d : List ℕ) → valuesOf (recordOf (f .kind) (valuesIn 10 (slotsOf 
 -- for each row by computing, and in the last three, which have a V, by pairing its characters again
 again : All Again forms
 unfolding forms slotsIn countOf slotsOf recordOf valuesIn
-again =
-    (λ d. refl, (λ d. refl, (λ d. refl, (λ d. refl, (λ d. refl, (λ d. refl, (λ d. refl, (λ d. refl, (λ d. refl, (λ d. refl, (λ d. refl, (λ d. rw watch-again, (λ d. rw watch-again, (λ d. rw watch-again, tt))))))))))))))
+again = (
+  λ d. refl,
+  (
+    λ d. refl,
+    (
+      λ d. refl,
+      (
+        λ d. refl,
+        (
+          λ d. refl,
+          (
+            λ d. refl,
+            (λ d. refl, (λ d. refl, (λ d. refl, (λ d. refl, (λ d. refl, (λ d. rw watch-again, (λ d. rw watch-again, (λ d. rw watch-again, tt)))))))),
+          ),
+        ),
+      ),
+    ),
+  ),
+)
 
 -- the values of a record that was read are those that it was made of
 pub values-again : (line kind : ℕ) (d : List ℕ) → formOf line kind .found ≡ true

@@ -1,5 +1,5 @@
 -- The refusals of writing, one after the other, and what is written. Assumes nothing.
-use mathlib.Core.Path.{_≡_, refl, ap, _∙_}
+use mathlib.Core.Path.{_≡_, refl}
 use mathlib.Core.Bool.{Bool, true, false, cond}
 use mathlib.Core.List.{List, _++_}
 use Prim.Native.Nat.{ℕ, _+_, _≤_, _<_}
@@ -9,9 +9,10 @@ use lib.ListN.{length, drop}
 use borrow.Author.Tests.{lt-ltb, le-ltb, le-leb, lt-leb}
 use Rattle.records.specs.Refusals.{no}
 use Rattle.laws.specs.Truth.{both}
-use Rattle.forms.specs.Forms.{formOf, slotsOf, widthOf, isLine}
+use Rattle.forms.specs.Lines.{isLine}
+use Rattle.forms.specs.Forms.{slotsOf, widthOf}
 use Rattle.records.specs.Records.{typeOf, valuesOf}
-use Rattle.values.specs.Values.{permitsRecord, lengthOf}
+use Rattle.values.specs.Values.{rowOf, permitsRecord, lengthOf}
 use Rattle.records.specs.declared.records.Record.{Record}
 use Rattle.forms.specs.declared.table.Looked.{Looked}
 use Rattle.reading.specs.Answers.{written, refused}
@@ -36,7 +37,7 @@ result line kind l vs lined permits number out =
     (refused (no 15 0), out)
 
 whole : (line : ℕ) (rec : Record) (number : ℕ) (out : List ℕ)
-    → result line (typeOf rec) (formOf line (typeOf rec)) (valuesOf rec) (isLine line) (permitsRecord line rec) number out ≡ writingOf line rec number out
+    → result line (typeOf rec) (rowOf line rec) (valuesOf rec) (isLine line) (permitsRecord line rec) number out ≡ writingOf line rec number out
 unfolding result writingOf lengthOf telegramOf
 whole line rec number out = refl
 
@@ -45,9 +46,9 @@ unfolding writingOf
 no-line line rec number out h = rw h
 
 module _ (line : ℕ) (rec : Record) (number : ℕ) (out : List ℕ) (kind : ℕ) (looked : Looked)
-    (a : isLine line ≡ true) (e : kind ≡ typeOf rec) (f : looked ≡ formOf line kind) where
+    (a : isLine line ≡ true) (e : kind ≡ typeOf rec) (r : looked ≡ rowOf line rec) where
   same : (vs : List ℕ) (p : Bool) → vs ≡ valuesOf rec → permitsRecord line rec ≡ p → result line kind looked vs true p number out ≡ writingOf line rec number out
-  same vs p g h = let w = whole line rec number out in let r : looked ≡ formOf line (typeOf rec) = f ∙ ap (λ (x : ℕ). formOf line x) e in cc
+  same vs p g h = let w = whole line rec number out in cc
 
   pub not-sent : looked .found ≡ false → (refused (no 12 0), out) ≡ writingOf line rec number out
   unfolding result
@@ -64,9 +65,9 @@ module _ (line : ℕ) (rec : Record) (number : ℕ) (out : List ℕ) (kind : ℕ
 
     pub no-room : number ≤ 1 → length out < 8 + widthOf (looked .form) → (refused (no 14 0), out) ≡ writingOf line rec number out
     unfolding result
-    no-room g r = rw (← (same (valuesOf rec) true refl p), h, lt-ltb number 2 (small g), lt-leb _ _ r)
+    no-room g q = rw (← (same (valuesOf rec) true refl p), h, lt-ltb number 2 (small g), lt-leb _ _ q)
 
     pub in-full : number ≤ 1 → 8 + widthOf (looked .form) ≤ length out → (vs : List ℕ) → vs ≡ valuesOf rec
         → (written (8 + widthOf (looked .form)), frameOf kind number (dataOf (slotsOf (looked .form)) vs) ++ drop (8 + widthOf (looked .form)) out) ≡ writingOf line rec number out
     unfolding result
-    in-full g r vs q = rw (← (same vs true q p), h, lt-ltb number 2 (small g), le-leb _ _ r)
+    in-full g room vs q = rw (← (same vs true q p), h, lt-ltb number 2 (small g), le-leb _ _ room)

@@ -6,9 +6,10 @@ use lib.Dec.{ltb, leb}
 use lib.ListN.{length, drop}
 use Rattle.records.specs.Refusals.{no}
 use Rattle.laws.specs.Truth.{both}
-use Rattle.forms.specs.Forms.{slotsOf, formOf, isLine}
+use Rattle.forms.specs.Lines.{isLine}
+use Rattle.forms.specs.Forms.{slotsOf}
 use Rattle.records.specs.Records.{typeOf, valuesOf}
-use Rattle.values.specs.Values.{permitsRecord, lengthOf}
+use Rattle.values.specs.Values.{rowOf, permitsRecord, lengthOf}
 use Rattle.records.specs.declared.records.Record.{Record}
 use Rattle.reading.specs.Answers.{Outcome, written, refused}
 use Rattle.reading.specs.Frame.{frameOf}
@@ -16,7 +17,7 @@ use Rattle.reading.specs.Field.{dataOf}
 
 -- the telegram of a record with its number on a line
 unfoldable pub telegramOf : ℕ → Record → ℕ → List ℕ
-telegramOf line rec number = frameOf (typeOf rec) number (dataOf (slotsOf (formOf line (typeOf rec) .form)) (valuesOf rec))
+telegramOf line rec number = frameOf (typeOf rec) number (dataOf (slotsOf (rowOf line rec .form)) (valuesOf rec))
 
 -- the outcome, and the output behind it
 abbrev pub Write : Type 0
@@ -26,7 +27,7 @@ Write = Outcome × List ℕ
 unfoldable pub writingOf : ℕ → Record → ℕ → List ℕ → Write
 writingOf line rec number out =
     cond (isLine line)
-    (cond (formOf line (typeOf rec) .found)
+    (cond (rowOf line rec .found)
     (cond (both (permitsRecord line rec) (ltb number 2))
     (cond (leb (lengthOf line rec) (length out))
     (written (lengthOf line rec), telegramOf line rec number ++ drop (lengthOf line rec) out)

@@ -12,19 +12,20 @@ ghost use Rattle.writing.specs.Writing.{writingOf};
 use characters::checksum::checksum;
 use characters::checksum::hex;
 use characters::slices::wide;
+use forms::lines::is_line;
 use forms::table::Form;
 use forms::table::count_of;
 use forms::table::form_of;
-use forms::table::is_line;
 use forms::table::width_of;
 use reading::answers::Writing;
 use reading::frame::count_high;
 use reading::frame::count_low;
 use records::records::Record;
+use records::records::letter_of;
 use records::records::type_of;
 use records::records::values_of;
 use records::refusals::Refusal;
-use values::values::permits_record;
+use values::values::permits_values;
 use values::values::put_packet;
 
 // LF, the byte count of a telegram of n bytes, type and number.
@@ -88,21 +89,22 @@ pub fn write(line: u8, rec: Record, number: u8, out: &mut [u8]) -> Writing
         return Writing::Refused(Refusal::State);
     }
     let kind = type_of(rec);
-    let looked = form_of(line, kind);
+    let looked = form_of(line, kind, letter_of(rec));
     if !looked.found {
         return Writing::Refused(Refusal::NotSent);
     }
-    if !permits_record(line, rec) {
+    let form = looked.form;
+    let values = values_of(rec);
+    if !permits_values(line, kind, form, values) {
         return Writing::Refused(Refusal::Range);
     }
     if 1 < number {
         return Writing::Refused(Refusal::Range);
     }
-    let form = looked.form;
     let n = 8 + width_of(form);
     if out.len() < n {
         return Writing::Refused(Refusal::NoRoom);
     }
-    put_telegram(out, kind, number, form, values_of(rec));
+    put_telegram(out, kind, number, form, values);
     Writing::Written(n)
 }

@@ -16,7 +16,10 @@ use Rattle.reading.proofs.field.bad_value.Statement.{statement}
 use Rattle.reading.proofs.field.bad_value.Tie as tie
 
 abbrev Inv-loop : tie.InvT-loop
-Inv-loop line kind field letters lens count at₀ j₀ at j = (count ≤ 10) × (j ≤ count) × (at ≤ 256 * j) × (badValue line kind (5 + at) (slotsIn (count - j) (drop j letters) (drop j lens)) (drop at field) ≡ badValue line kind 5 (slotsIn count letters lens) field)
+Inv-loop line kind field letters lens count at₀ j₀ at j =
+    (count ≤ 10) × (j ≤ count) × (at ≤ 256 * j)
+    × (badValue line kind (5 + at) (slotsIn (count - j) (drop j letters) (drop j lens)) (drop at field)
+    ≡ badValue line kind 5 (slotsIn count letters lens) field)
 
 abbrev μ-loop : tie.MeasureT-loop
 μ-loop line kind field letters lens count at₀ j₀ at j = count - j
@@ -52,7 +55,20 @@ add-t20 c = omega arith
 
 returns : tie.Need-returns Inv-loop μ-loop
 unfolding slotsOf
-returns c = sym (value-wrong (c .before .before .before .before .before .before .before .before .before .before .args .form .letters) (c .before .before .before .before .before .before .before .before .before .before .args .form .lens) (now (c .before .before .before .before .before .before .before .before .before .before .args .field)) (c .before .before .before .before .before .before .count-of .result) (c .before .before .before .before .before .loop .j) (c .before .before .before .before .before .loop .at) (c .before .before .before .before .loop-test .taken) (c .before .before .before .before .before .before .before .before .before .before .args .line) (c .before .before .before .before .before .before .before .before .before .before .args .kind) (c .before .before .before .wide .result) (c .before .before .before .wide .ensures .0) (sym (c .before .permits-text .ensures ∙ ap (λ (x : List ℕ). permitted (c .before .before .before .before .before .before .before .before .before .before .args .line) (c .before .before .before .before .before .before .before .before .before .before .args .kind) (getD (c .before .before .before .before .before .before .before .before .before .before .args .form .letters) (c .before .before .before .before .before .loop .j) 0) x) (c .before .before .part .ensures)) ∙ not-true _ (c .if1 .taken))) ∙ c .before .before .before .before .before .loop .inv .3 ∙ rw (c .before .before .before .before .before .before .count-of .ensures)
+returns c =
+    let a = c .before .before .before .before .before .before .before .before .before .before .args in
+    let count-of = c .before .before .before .before .before .before .count-of in
+    let loop = c .before .before .before .before .before .loop in
+    let loop-test = c .before .before .before .before .loop-test in
+    let wide = c .before .before .before .wide in
+    sym
+    (value-wrong (a .form .letters) (a .form .lens) (now (a .field)) (count-of .result) (loop .j) (loop .at) (loop-test .taken) (a .line) (a .kind)
+    (wide .result) (wide .ensures .0)
+    (sym
+    (c .before .permits-text .ensures
+    ∙ ap (λ (x : List ℕ). permitted (a .line) (a .kind) (getD (a .form .letters) (loop .j) 0) x) (c .before .before .part .ensures))
+    ∙ not-true _ (c .if1 .taken)))
+    ∙ loop .inv .3 ∙ rw (count-of .ensures)
 
 add-at : tie.Need-add-at Inv-loop μ-loop
 add-at c = omega arith
@@ -67,14 +83,35 @@ loop-less : tie.Need-loop-less Inv-loop μ-loop
 loop-less c = search needs
 
 loop-again : tie.Need-loop-again Inv-loop μ-loop
-loop-again c = (c .before .before .before .before .before .loop .inv .0, omega arith, omega arith, sym (value-right (c .before .before .before .before .before .before .before .before .before .before .args .form .letters) (c .before .before .before .before .before .before .before .before .before .before .args .form .lens) (now (c .before .before .before .before .before .before .before .before .before .before .args .field)) (c .before .before .before .before .before .before .count-of .result) (c .before .before .before .before .before .loop .j) (c .before .before .before .before .before .loop .at) (c .before .before .before .before .loop-test .taken) (c .before .before .before .before .before .before .before .before .before .before .args .line) (c .before .before .before .before .before .before .before .before .before .before .args .kind) (c .before .before .before .wide .result) (c .before .before .before .wide .ensures .0) (sym (c .before .permits-text .ensures ∙ ap (λ (x : List ℕ). permitted (c .before .before .before .before .before .before .before .before .before .before .args .line) (c .before .before .before .before .before .before .before .before .before .before .args .kind) (getD (c .before .before .before .before .before .before .before .before .before .before .args .form .letters) (c .before .before .before .before .before .loop .j) 0) x) (c .before .before .part .ensures)) ∙ not-false _ (c .if1 .left))) ∙ c .before .before .before .before .before .loop .inv .3)
+loop-again c =
+    let a = c .before .before .before .before .before .before .before .before .before .before .args in
+    let count-of = c .before .before .before .before .before .before .count-of in
+    let loop = c .before .before .before .before .before .loop in
+    let loop-test = c .before .before .before .before .loop-test in
+    let wide = c .before .before .before .wide in (
+      loop .inv .0,
+      omega arith,
+      omega arith,
+      sym
+          (value-right (a .form .letters) (a .form .lens) (now (a .field)) (count-of .result) (loop .j) (loop .at) (loop-test .taken) (a .line) (a .kind)
+          (wide .result) (wide .ensures .0)
+          (sym
+          (c .before .permits-text .ensures
+          ∙ ap (λ (x : List ℕ). permitted (a .line) (a .kind) (getD (a .form .letters) (loop .j) 0) x) (c .before .before .part .ensures))
+          ∙ not-false _ (c .if1 .left)))
+          ∙ loop .inv .3,
+    )
 
 returns-2 : tie.Need-returns-2 Inv-loop μ-loop
 unfolding slotsOf badValue
 returns-2 c =
-    let a = c .before .before .before .before .before .before .args in let l = c .before .loop in let n = c .before .before .count-of .result in
-    let e : slotsIn (n - l .j) (drop (l .j) (a .form .letters)) (drop (l .j) (a .form .lens)) ≡ [] = slots-end (drop (l .j) (a .form .letters)) (drop (l .j) (a .form .lens)) n (l .j) (c .loop-test .left) in
-    (rw e at (l .inv .3)) ∙ rw (c .before .before .count-of .ensures)
+    let a = c .before .before .before .before .before .before .args in
+    let count-of = c .before .before .count-of in
+    let l = c .before .loop in
+    let n = count-of .result in
+    let e : slotsIn (n - l .j) (drop (l .j) (a .form .letters)) (drop (l .j) (a .form .lens)) ≡ [] =
+    slots-end (drop (l .j) (a .form .letters)) (drop (l .j) (a .form .lens)) n (l .j) (c .loop-test .left) in
+    (rw e at (l .inv .3)) ∙ rw (count-of .ensures)
 
 pub bad-value-spec : {M : Type 1} → statement M
 bad-value-spec =

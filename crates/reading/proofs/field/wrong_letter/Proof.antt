@@ -14,7 +14,9 @@ use Rattle.reading.proofs.field.wrong_letter.Statement.{statement}
 use Rattle.reading.proofs.field.wrong_letter.Tie as tie
 
 abbrev Inv-loop : tie.InvT-loop
-Inv-loop field letters lens count at₀ j₀ at j = (count ≤ 10) × (j ≤ count) × (at ≤ 256 * j) × (wrongLetter (5 + at) (slotsIn (count - j) (drop j letters) (drop j lens)) (drop at field) ≡ wrongLetter 5 (slotsIn count letters lens) field)
+Inv-loop field letters lens count at₀ j₀ at j =
+    (count ≤ 10) × (j ≤ count) × (at ≤ 256 * j)
+    × (wrongLetter (5 + at) (slotsIn (count - j) (drop j letters) (drop j lens)) (drop at field) ≡ wrongLetter 5 (slotsIn count letters lens) field)
 
 abbrev μ-loop : tie.MeasureT-loop
 μ-loop field letters lens count at₀ j₀ at j = count - j
@@ -38,7 +40,14 @@ add-t13 c = omega arith
 
 returns : tie.Need-returns Inv-loop μ-loop
 unfolding slotsOf
-returns c = sym (letter-wrong (c .before .before .before .before .before .before .before .before .args .form .letters) (c .before .before .before .before .before .before .before .before .args .form .lens) (now (c .before .before .before .before .before .before .before .before .args .field)) (c .before .before .before .before .count-of .result) (c .before .before .before .loop .j) (c .before .before .before .loop .at) (c .before .before .loop-test .taken) (λ e. c .if1 .taken (c .before .byte-at .ensures ∙ e))) ∙ c .before .before .before .loop .inv .3 ∙ rw (c .before .before .before .before .count-of .ensures)
+returns c =
+    let a = c .before .before .before .before .before .before .before .before .args in
+    let count-of = c .before .before .before .before .count-of in
+    let loop = c .before .before .before .loop in
+    sym
+    (letter-wrong (a .form .letters) (a .form .lens) (now (a .field)) (count-of .result) (loop .j) (loop .at) (c .before .before .loop-test .taken)
+    (λ e. c .if1 .taken (c .before .byte-at .ensures ∙ e)))
+    ∙ loop .inv .3 ∙ rw (count-of .ensures)
 
 array-read-wide : tie.Need-array-read-wide Inv-loop μ-loop
 array-read-wide c = search needs
@@ -59,14 +68,30 @@ loop-less : tie.Need-loop-less Inv-loop μ-loop
 loop-less c = search needs
 
 loop-again : tie.Need-loop-again Inv-loop μ-loop
-loop-again c = (c .before .before .before .before .loop .inv .0, omega arith, omega arith, sym (letter-right (c .before .before .before .before .before .before .before .before .before .args .form .letters) (c .before .before .before .before .before .before .before .before .before .args .form .lens) (now (c .before .before .before .before .before .before .before .before .before .args .field)) (c .before .before .before .before .before .count-of .result) (c .before .before .before .before .loop .j) (c .before .before .before .before .loop .at) (c .before .before .before .loop-test .taken) (c .wide .result) (c .wide .ensures .0) (sym (c .before .before .byte-at .ensures) ∙ c .before .if1 .left)) ∙ c .before .before .before .before .loop .inv .3)
+loop-again c =
+    let a = c .before .before .before .before .before .before .before .before .before .args in
+    let count-of = c .before .before .before .before .before .count-of in
+    let loop = c .before .before .before .before .loop in
+    let loop-test = c .before .before .before .loop-test in (
+      loop .inv .0,
+      omega arith,
+      omega arith,
+      sym
+          (letter-right (a .form .letters) (a .form .lens) (now (a .field)) (count-of .result) (loop .j) (loop .at) (loop-test .taken) (c .wide .result)
+          (c .wide .ensures .0) (sym (c .before .before .byte-at .ensures) ∙ c .before .if1 .left))
+          ∙ loop .inv .3,
+    )
 
 returns-2 : tie.Need-returns-2 Inv-loop μ-loop
 unfolding slotsOf wrongLetter
 returns-2 c =
-    let a = c .before .before .before .before .before .before .args in let l = c .before .loop in let n = c .before .before .count-of .result in
-    let e : slotsIn (n - l .j) (drop (l .j) (a .form .letters)) (drop (l .j) (a .form .lens)) ≡ [] = slots-end (drop (l .j) (a .form .letters)) (drop (l .j) (a .form .lens)) n (l .j) (c .loop-test .left) in
-    (rw e at (l .inv .3)) ∙ rw (c .before .before .count-of .ensures)
+    let a = c .before .before .before .before .before .before .args in
+    let count-of = c .before .before .count-of in
+    let l = c .before .loop in
+    let n = count-of .result in
+    let e : slotsIn (n - l .j) (drop (l .j) (a .form .letters)) (drop (l .j) (a .form .lens)) ≡ [] =
+    slots-end (drop (l .j) (a .form .letters)) (drop (l .j) (a .form .lens)) n (l .j) (c .loop-test .left) in
+    (rw e at (l .inv .3)) ∙ rw (count-of .ensures)
 
 pub wrong-letter-spec : {M : Type 1} → statement M
 wrong-letter-spec =

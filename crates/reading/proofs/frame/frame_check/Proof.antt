@@ -21,7 +21,10 @@ byte-at-requires : tie.Need-byte-at-requires
 byte-at-requires c κs = search needs
 
 returns-3 : tie.Need-returns-3
-returns-3 c = no-start (now (c .before .before .before .before .before .args .s)) (c .before .before .before .if1 .left) (c .before .before .if2 .left) (λ e. c .if3 .taken (c .before .byte-at .ensures ∙ e))
+returns-3 c =
+    let a = c .before .before .before .before .before .args in
+    let if1 = c .before .before .before .if1 in
+    no-start (now (a .s)) (if1 .left) (c .before .before .if2 .left) (λ e. c .if3 .taken (c .before .byte-at .ensures ∙ e))
 
 count-high-requires : tie.Need-count-high-requires
 count-high-requires c κs = search needs
@@ -33,13 +36,37 @@ is-two-requires : tie.Need-is-two-requires
 is-two-requires c κs = search needs
 
 returns-4 : tie.Need-returns-4
-returns-4 c = bad-count (now (c .before .before .before .before .before .before .before .before .before .args .s)) (c .before .before .before .before .before .before .before .if1 .left) (c .before .before .before .before .before .before .if2 .left) (sym (c .before .before .before .before .before .byte-at .ensures) ∙ c .before .before .before .before .if3 .left) (sym (c .before .is-two .ensures ∙ ap (λ (x : List ℕ). isTwo (now (c .before .before .before .before .before .before .before .before .before .args .s)) 1 x) (count-two (length (now (c .before .before .before .before .before .before .before .before .before .args .s))) _ _ (c .before .before .before .count-high .ensures) (c .before .before .count-low .ensures))) ∙ not-true _ (c .if4 .taken))
+returns-4 c =
+    let a = c .before .before .before .before .before .before .before .before .before .args in
+    let if1 = c .before .before .before .before .before .before .before .if1 in
+    let if2 = c .before .before .before .before .before .before .if2 in
+    let byte-at = c .before .before .before .before .before .byte-at in
+    let if3 = c .before .before .before .before .if3 in
+    let count-high = c .before .before .before .count-high in
+    bad-count (now (a .s)) (if1 .left) (if2 .left) (sym (byte-at .ensures) ∙ if3 .left)
+    (sym
+    (c .before .is-two .ensures
+    ∙ ap (λ (x : List ℕ). isTwo (now (a .s)) 1 x) (count-two (length (now (a .s))) _ _ (count-high .ensures) (c .before .before .count-low .ensures)))
+    ∙ not-true _ (c .if4 .taken))
 
 end-check-requires : tie.Need-end-check-requires
 end-check-requires c κs = search needs
 
 returns-5 : tie.Need-returns-5
-returns-5 c = c .end-check .ensures ∙ to-end (now (c .before .before .before .before .before .before .before .before .before .before .args .s)) (c .before .before .before .before .before .before .before .before .if1 .left) (c .before .before .before .before .before .before .before .if2 .left) (sym (c .before .before .before .before .before .before .byte-at .ensures) ∙ c .before .before .before .before .before .if3 .left) (sym (c .before .before .is-two .ensures ∙ ap (λ (x : List ℕ). isTwo (now (c .before .before .before .before .before .before .before .before .before .before .args .s)) 1 x) (count-two (length (now (c .before .before .before .before .before .before .before .before .before .before .args .s))) _ _ (c .before .before .before .before .count-high .ensures) (c .before .before .before .count-low .ensures))) ∙ not-false _ (c .before .if4 .left))
+returns-5 c =
+    let a = c .before .before .before .before .before .before .before .before .before .before .args in
+    let if1 = c .before .before .before .before .before .before .before .before .if1 in
+    let if2 = c .before .before .before .before .before .before .before .if2 in
+    let byte-at = c .before .before .before .before .before .before .byte-at in
+    let if3 = c .before .before .before .before .before .if3 in
+    let count-high = c .before .before .before .before .count-high in
+    let count-low = c .before .before .before .count-low in
+    c .end-check .ensures
+    ∙ to-end (now (a .s)) (if1 .left) (if2 .left) (sym (byte-at .ensures) ∙ if3 .left)
+    (sym
+    (c .before .before .is-two .ensures
+    ∙ ap (λ (x : List ℕ). isTwo (now (a .s)) 1 x) (count-two (length (now (a .s))) _ _ (count-high .ensures) (count-low .ensures)))
+    ∙ not-false _ (c .before .if4 .left))
 
 pub frame-check-spec : {M : Type 1} → statement M
 frame-check-spec =

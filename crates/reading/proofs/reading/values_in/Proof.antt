@@ -89,9 +89,13 @@ loop-again c =
 returns : tie.Need-returns Inv-loop μ-loop
 unfolding slotsOf
 returns c =
-    let a = c .before .before .before .before .before .before .args in let l = c .before .loop in let n = c .before .before .count-of .result in
-    let e : slotsIn (n - l .j) (drop (l .j) (a .form .letters)) (drop (l .j) (a .form .lens)) ≡ [] = slots-end (drop (l .j) (a .form .letters)) (drop (l .j) (a .form .lens)) n (l .j) (c .loop-test .left) in
-    filled-end (l .values) (l .j) (drop (l .at) (now (a .field))) _ (omega arith) (l .inv .4) (rw e at (l .inv .5)) ∙ rw (c .before .before .count-of .ensures)
+    let a = c .before .before .before .before .before .before .args in
+    let count-of = c .before .before .count-of in
+    let l = c .before .loop in
+    let n = count-of .result in
+    let e : slotsIn (n - l .j) (drop (l .j) (a .form .letters)) (drop (l .j) (a .form .lens)) ≡ [] =
+    slots-end (drop (l .j) (a .form .letters)) (drop (l .j) (a .form .lens)) n (l .j) (c .loop-test .left) in
+    filled-end (l .values) (l .j) (drop (l .at) (now (a .field))) _ (omega arith) (l .inv .4) (rw e at (l .inv .5)) ∙ rw (count-of .ensures)
 
 pub values-in-spec : {M : Type 1} → statement M
 values-in-spec =

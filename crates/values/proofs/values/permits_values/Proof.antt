@@ -68,9 +68,13 @@ loop-again c =
 returns-2 : tie.Need-returns-2 Inv-loop μ-loop
 unfolding slotsOf permitsValues
 returns-2 c =
-    let a = c .before .before .before .before .before .args in let l = c .before .loop in let n = c .before .before .count-of .result in
-    let e : slotsIn (n - l .j) (drop (l .j) (a .form .letters)) (drop (l .j) (a .form .lens)) ≡ [] = slots-end (drop (l .j) (a .form .letters)) (drop (l .j) (a .form .lens)) n (l .j) (c .loop-test .left) in
-    (rw e at (l .inv .2)) ∙ rw (c .before .before .count-of .ensures)
+    let a = c .before .before .before .before .before .args in
+    let count-of = c .before .before .count-of in
+    let l = c .before .loop in
+    let n = count-of .result in
+    let e : slotsIn (n - l .j) (drop (l .j) (a .form .letters)) (drop (l .j) (a .form .lens)) ≡ [] =
+    slots-end (drop (l .j) (a .form .letters)) (drop (l .j) (a .form .lens)) n (l .j) (c .loop-test .left) in
+    (rw e at (l .inv .2)) ∙ rw (count-of .ensures)
 
 pub permits-values-spec : {M : Type 1} → statement M
 permits-values-spec =

@@ -39,7 +39,11 @@ same-length : tie.Need-same-length
 same-length c = search needs
 
 returns : tie.Need-returns
-returns c = five (now (c .before .before .before .args .part)) _ _ _ _ _ (c .before .before .before .pre .0) ∙ ap (λ (l : List ℕ). 10 ∷ (l ++ ((c .before .before .before .args .kind) ∷ (48 + c .before .before .before .args .number) ∷ []))) (count-two (c .before .before .before .args .n) _ _ (c .before .count-high .ensures) (c .count-low .ensures))
+returns c =
+    let a = c .before .before .before .args in
+    let pre = c .before .before .before .pre in
+    five (now (a .part)) _ _ _ _ _ (pre .0)
+    ∙ ap (λ (l : List ℕ). 10 ∷ (l ++ ((a .kind) ∷ (48 + a .number) ∷ []))) (count-two (a .n) _ _ (c .before .count-high .ensures) (c .count-low .ensures))
 
 pub put-head-spec : {M : Type 1} → statement M
 put-head-spec =

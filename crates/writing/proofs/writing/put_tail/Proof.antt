@@ -28,7 +28,10 @@ same-length : tie.Need-same-length
 same-length c = search needs
 
 returns : tie.Need-returns
-returns c = three (now (c .before .before .before .args .part)) _ _ _ (c .before .before .before .pre) ∙ ap (λ (l : List ℕ). l ++ (13 ∷ [])) (sum-two (c .before .before .before .args .sum) _ _ (c .before .hex .ensures) (c .hex2 .ensures))
+returns c =
+    let a = c .before .before .before .args in
+    let pre = c .before .before .before .pre in
+    three (now (a .part)) _ _ _ pre ∙ ap (λ (l : List ℕ). l ++ (13 ∷ [])) (sum-two (a .sum) _ _ (c .before .hex .ensures) (c .hex2 .ensures))
 
 pub put-tail-spec : {M : Type 1} → statement M
 put-tail-spec =

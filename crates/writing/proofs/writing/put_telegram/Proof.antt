@@ -77,15 +77,23 @@ same-length c = search needs
 returns : tie.Need-returns
 returns c =
     let a = c .before .before .before .before .before .before .before .before .before .before .before .before .before .before .before .before .before .args in
-    let w = c .before .before .before .before .before .before .before .before .before .before .before .before .before .before .before .width-of .result in
-    let h = c .before .before .before .before .before .before .before .before .before .before .before .before .before .put-head .last .0 in
-    let d = c .before .before .before .before .before .before .before .before .before .put-packets .last .0 in
-    let he = c .before .before .before .before .before .before .before .before .before .before .before .before .before .put-head .ensures in
+    let width-of = c .before .before .before .before .before .before .before .before .before .before .before .before .before .before .before .width-of in
+    let put-head = c .before .before .before .before .before .before .before .before .before .before .before .before .before .put-head in
+    let put-packets-arg = c .before .before .before .before .before .before .before .before .before .before .put-packets-arg in
+    let put-packets = c .before .before .before .before .before .before .before .before .before .put-packets in
+    let checksum = c .before .before .before .before .checksum in
+    let put-tail = c .before .before .put-tail in
+    let w = width-of .result in
+    let h = put-head .last .0 in
+    let d = put-packets .last .0 in
+    let he = put-head .ensures in
     let lh : length h ≡ 5 = ap length he ∙ head-length (8 + w) (a .kind) (a .number) in
-    let ld : length d ≡ w = c .before .before .before .before .before .before .before .before .before .put-packets .kept .0 ∙ c .before .before .before .before .before .before .before .before .before .before .put-packets-arg .given .2 ∙ omega arith in
-    let sum = c .before .before .before .before .checksum .ensures ∙ ap checksumOf (summed (a .kind) (a .number) w (now (a .out)) h d [] lh ld he) in
-    let e : frameOf (a .kind) (a .number) d ++ drop (8 + w) (now (a .out)) ≡ frameOf (a .kind) (a .number) (dataOf (slotsOf (a .form)) (a .values)) ++ drop (8 + widthOf (a .form)) (now (a .out)) = rw (c .before .before .before .before .before .before .before .before .before .put-packets .ensures, c .before .before .before .before .before .before .before .before .before .before .before .before .before .before .before .width-of .ensures .0) in
-    telegram-put (a .kind) (a .number) w (now (a .out)) h d (c .before .before .put-tail .last .0) lh ld he (c .before .before .put-tail .ensures ∙ ap tailText sum) ∙ e
+    let ld : length d ≡ w = put-packets .kept .0 ∙ put-packets-arg .given .2 ∙ omega arith in
+    let sum = checksum .ensures ∙ ap checksumOf (summed (a .kind) (a .number) w (now (a .out)) h d [] lh ld he) in
+    let e : frameOf (a .kind) (a .number) d ++ drop (8 + w) (now (a .out))
+    ≡ frameOf (a .kind) (a .number) (dataOf (slotsOf (a .form)) (a .values)) ++ drop (8 + widthOf (a .form)) (now (a .out)) =
+    rw (put-packets .ensures, width-of .ensures .0) in
+    telegram-put (a .kind) (a .number) w (now (a .out)) h d (put-tail .last .0) lh ld he (put-tail .ensures ∙ ap tailText sum) ∙ e
 
 pub put-telegram-spec : {M : Type 1} → statement M
 put-telegram-spec =
