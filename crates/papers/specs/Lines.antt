@@ -8,7 +8,8 @@ use lib.Dec.{eqb}
 use lib.ListN.{getD}
 use Rattle.laws.specs.Truth.{both, oneOf, every, All}
 use Rattle.laws.specs.Text.{codes}
-use Rattle.forms.specs.Forms.{forms, onLine, isLine, formOf, byMaster, bySlave, dataType}
+use Rattle.forms.specs.Lines.{isLine}
+use Rattle.forms.specs.Forms.{forms, onLine, formOf, byMaster, bySlave, dataType}
 use Rattle.forms.specs.declared.table.Form.{Form}
 
 -- a line: what the master sends and what the slave sends

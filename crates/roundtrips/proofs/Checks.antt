@@ -7,12 +7,13 @@ use Prim.Native.Char.{code}
 use lib.Dec.{eqb}
 use lib.ListN.{length, getD}
 use borrow.Author.Tests.{eqb-true, eq-eqb}
-use Rattle.forms.specs.Forms.{isLine, formOf, slotsOf, widthOf}
+use Rattle.forms.specs.Lines.{isLine}
+use Rattle.forms.specs.Forms.{slotsOf, widthOf}
 use Rattle.records.specs.declared.records.Record.{Record}
 use Rattle.forms.proofs.Found.{found-line}
 use Rattle.reading.specs.Answers.{accepted, firstFault}
 use Rattle.reading.specs.Frame.{fieldOf, frameChecks}
-use Rattle.reading.specs.Field.{outside, wrongLetter, misshapen, fieldChecks}
+use Rattle.reading.specs.Field.{rowIn, outside, wrongLetter, misshapen, fieldChecks}
 use Rattle.reading.specs.Reading.{recordIn, checks, readingOf}
 use Rattle.reading.specs.declared.answers.Spot.the-variants.{Nowhere}
 use Rattle.roundtrips.proofs.Faults.{Faultless, faultless-append, faultless-parts, needs-held, no-fault, faultless-good, good-faultless, accepted-good}
@@ -22,9 +23,9 @@ use Rattle.roundtrips.proofs.Frames.{Framed, framed-faultless, faultles
 module _ (line : ℕ) (s : List ℕ) where
   -- what checks 8 to 11 ask
   pub record Carried : Type 0 where
-    pub found : formOf line (getD s 3 0) .found ≡ true
+    pub found : rowIn line s .found ≡ true
     pub inside : outside 5 (fieldOf s) ≡ Nowhere
-    pub clear : Clear line (getD s 3 0) 5 (slotsOf (formOf line (getD s 3 0) .form)) (fieldOf s)
+    pub clear : Clear line (getD s 3 0) 5 (slotsOf (rowIn line s .form)) (fieldOf s)
 
   -- they find no fault just where it holds
   carried-faultless : Carried → Faultless (fieldChecks line s)
@@ -34,7 +35,7 @@ module _ (line : ℕ) (s : List ℕ) where
   faultless-carried : Faultless (fieldChecks line s) → Carried
   unfolding fieldChecks misshapen widthOf
   faultless-carried a =
-      let m = no-fault (eqb (length (fieldOf s)) (widthOf (formOf line (getD s 3 0) .form))) 5 (wrongLetter 5 (slotsOf (formOf line (getD s 3 0) .form)) (fieldOf s)) (a .1 .1 .0) in
+      let m = no-fault (eqb (length (fieldOf s)) (widthOf (rowIn line s .form))) 5 (wrongLetter 5 (slotsOf (rowIn line s .form)) (fieldOf s)) (a .1 .1 .0) in
       record {
         found = needs-held _ _ (a .0);
         inside = a .1 .0;
@@ -46,7 +47,7 @@ module _ (line : ℕ) (s : List ℕ) where
   unfolding readingOf checks
   passes-accepted f c =
       rw (
-        found-line line (getD s 3 0) (c .found),
+        found-line line (getD s 3 0) (getD s 5 0) (c .found),
         faultless-good 1 (checks line s) (faultless-append (frameChecks s) (fieldChecks line s) (framed-faultless s f) (carried-faultless c)),
       )
 

@@ -12,10 +12,12 @@ use borrow.Author.Tests.{eqb-true, eq-eqb}
 use Rattle.laws.specs.Truth.{every, pad}
 use Rattle.laws.proofs.Truths.{both-left, both-right, both-true}
 use Rattle.characters.specs.Characters.{inSet}
-use Rattle.forms.specs.Forms.{Slot, isLine, widthIn}
-use Rattle.values.specs.Values.{textOf, permitted, permitsValue, permitsValues}
+use Rattle.forms.specs.Lines.{isLine}
+use Rattle.forms.specs.Forms.{Slot, widthIn}
+use Rattle.values.specs.Values.{narrow, textOf, permitted, permitsValue, permitsValues}
 use Rattle.reading.specs.Field.{dataOf, behind, after, valueText, outside, wrongLetter, badValue, valuesIn}
 use Rattle.reading.specs.declared.answers.Spot.the-variants.{Nowhere}
+use Rattle.roundtrips.proofs.Rows.{noSlot, narrowSlot}
 use Rattle.roundtrips.proofs.Faults.{no-fault}
 use Rattle.roundtrips.proofs.Values.{text-length, text-permitted, text-value, permitted-set, value-text, value-permitted}
 
@@ -50,6 +52,12 @@ module _ (p : Slot) (x : ℕ) (d : List ℕ) where
   opened-after : after p opened ≡ d
   opened-after = rw (one-add (p .len)) (drop-at (textOf (p .letter) (p .len) x) d (p .len) (text-length (p .letter) (p .len) x))
 
+-- a field begins with the letter of its first packet
+pub data-first : (ps : List Slot) (vs : List ℕ) → getD (dataOf ps vs) 0 0 ≡ getD ps 0 noSlot .letter
+unfolding dataOf
+data-first [] vs = refl
+data-first (p ∷ ps) vs = refl
+
 -- each letter is the form's
 pub data-letters : (at : ℕ) (ps : List Slot) (vs : List ℕ) → wrongLetter at ps (dataOf ps vs) ≡ Nowhere
 unfolding dataOf wrongLetter
@@ -67,40 +75,42 @@ module _ (line kind : ℕ) where
   more-values p ps vs h = both-right (permitsValue line kind (p .letter) (p .len) (getD vs 0 0)) _ h
 
   -- each byte is of the set
-  pub data-set : (ps : List Slot) (vs : List ℕ) → isLine line ≡ true → every (λ (p : Slot). inSet (p .letter)) ps ≡ true → permitsValues line kind ps vs ≡ true → every inSet (dataOf ps vs) ≡ true
+  pub data-set : (ps : List Slot) (vs : List ℕ) → isLine line ≡ true → every (λ (p : Slot). inSet (p .letter)) ps ≡ true → every narrowSlot ps ≡ true
+      → permitsValues line kind ps vs ≡ true → every inSet (dataOf ps vs) ≡ true
   unfolding dataOf
-  data-set [] vs l s h = refl
-  data-set (p ∷ ps) vs l s h =
+  data-set [] vs l s q h = refl
+  data-set (p ∷ ps) vs l s q h =
       both-true (inSet (p .letter)) _ (both-left _ _ s)
       (every-append inSet (textOf (p .letter) (p .len) (getD vs 0 0)) (dataOf ps (drop 1 vs))
-      (permitted-set line kind (p .letter) l _ (text-permitted line kind (p .letter) (p .len) (getD vs 0 0) (first-value p ps vs h)))
-      (data-set ps (drop 1 vs) l (both-right (inSet (p .letter)) _ s) (more-values p ps vs h)))
+      (permitted-set line kind (p .letter) l _ (text-permitted line kind (p .letter) (p .len) (getD vs 0 0) (both-left _ _ q) (first-value p ps vs h)))
+      (data-set ps (drop 1 vs) l (both-right (inSet (p .letter)) _ s) (both-right (narrowSlot p) _ q) (more-values p ps vs h)))
 
   -- each value is permitted
-  pub data-permitted : (at : ℕ) (ps : List Slot) (vs : List ℕ) → permitsValues line kind ps vs ≡ true → badValue line kind at ps (dataOf ps vs) ≡ Nowhere
+  pub data-permitted : (at : ℕ) (ps : List Slot) (vs : List ℕ) → every narrowSlot ps ≡ true → permitsValues line kind ps vs ≡ true → badValue line kind at ps (dataOf ps vs) ≡ Nowhere
   unfolding dataOf badValue
-  data-permitted at [] vs h = refl
-  data-permitted at (p ∷ ps) vs h =
+  data-permitted at [] vs q h = refl
+  data-permitted at (p ∷ ps) vs q h =
       rw (
         opened-value p (getD vs 0 0) (dataOf ps (drop 1 vs)),
         opened-after p (getD vs 0 0) (dataOf ps (drop 1 vs)),
-        text-permitted line kind (p .letter) (p .len) (getD vs 0 0) (first-value p ps vs h),
+        text-permitted line kind (p .letter) (p .len) (getD vs 0 0) (both-left _ _ q) (first-value p ps vs h),
       )
-      (data-permitted (behind p at) ps (drop 1 vs) (more-values p ps vs h))
+      (data-permitted (behind p at) ps (drop 1 vs) (both-right (narrowSlot p) _ q) (more-values p ps vs h))
 
   -- the values are read back, and 0 behind them
-  pub data-values : (n : ℕ) (ps : List Slot) (xs : List ℕ) → length ps ≡ length xs → permitsValues line kind ps (pad n xs) ≡ true → valuesIn n ps (dataOf ps (pad n xs)) ≡ pad n xs
+  pub data-values : (n : ℕ) (ps : List Slot) (xs : List ℕ) → length ps ≡ length xs → every narrowSlot ps ≡ true
+      → permitsValues line kind ps (pad n xs) ≡ true → valuesIn n ps (dataOf ps (pad n xs)) ≡ pad n xs
   unfolding dataOf valuesIn
-  data-values zero ps xs e h = refl
-  data-values (suc n) [] [] e h = ap (λ (l : List ℕ). 0 ∷ l) (data-values n [] [] e (unfold permitsValues in refl))
-  data-values (suc n) [] (x ∷ xs) e h = absurd (omega arith)
-  data-values (suc n) (p ∷ ps) [] e h = absurd (omega arith)
-  data-values (suc n) (p ∷ ps) (x ∷ xs) e h =
+  data-values zero ps xs e q h = refl
+  data-values (suc n) [] [] e q h = ap (λ (l : List ℕ). 0 ∷ l) (data-values n [] [] e q (unfold permitsValues in refl))
+  data-values (suc n) [] (x ∷ xs) e q h = absurd (omega arith)
+  data-values (suc n) (p ∷ ps) [] e q h = absurd (omega arith)
+  data-values (suc n) (p ∷ ps) (x ∷ xs) e q h =
       rw (
         opened-value p x (dataOf ps (pad n xs)),
         opened-after p x (dataOf ps (pad n xs)),
-        text-value line kind (p .letter) (p .len) x (first-value p ps (x ∷ pad n xs) h),
-        data-values n ps xs (omega arith) (more-values p ps (x ∷ pad n xs) h),
+        text-value line kind (p .letter) (p .len) x (both-left _ _ q) (first-value p ps (x ∷ pad n xs) h),
+        data-values n ps xs (omega arith) (both-right (narrowSlot p) _ q) (more-values p ps (x ∷ pad n xs) h),
       )
 
 -- a field without a fault: as long as its packets, with their letters and permitted values
@@ -130,6 +140,9 @@ module _ (line kind at : ℕ) (p : Slot) (ps : List Slot) (d : List ℕ) (c : Cl
   clear-length : length (valueText p d) ≡ p .len
   clear-length = length-take-le (p .len) (drop 1 d) (omega (arith, clear-filled, length-drop 1 d))
 
+  clear-narrow : narrowSlot p ≡ true → narrow (p .letter) (length (valueText p d)) ≡ true
+  clear-narrow q = rw clear-length q
+
   -- the field is a packet and what stands behind it
   clear-split : p .letter ∷ (valueText p d ++ after p d) ≡ d
   clear-split = split-first d (p .letter) (p .len) (omega (arith, clear-filled)) (eqb-true _ _ (clear-letter .0))
@@ -140,24 +153,26 @@ module _ (line kind at : ℕ) (p : Slot) (ps : List Slot) (d : List ℕ) (c : Cl
 
 module _ (line kind : ℕ) (l : isLine line ≡ true) where
   -- the values of a field without a fault are permitted
-  pub values-permitted : (n at : ℕ) (ps : List Slot) (d : List ℕ) → length ps ≤ n → Clear line kind at ps d → permitsValues line kind ps (valuesIn n ps d) ≡ true
+  pub values-permitted : (n at : ℕ) (ps : List Slot) (d : List ℕ) → length ps ≤ n → every narrowSlot ps ≡ true → Clear line kind at ps d → permitsValues line kind ps (valuesIn n ps d) ≡ true
   unfolding permitsValues valuesIn
-  values-permitted n at [] d h c = refl
-  values-permitted zero at (p ∷ ps) d h c = absurd (omega arith)
-  values-permitted (suc n) at (p ∷ ps) d h c =
+  values-permitted n at [] d h q c = refl
+  values-permitted zero at (p ∷ ps) d h q c = absurd (omega arith)
+  values-permitted (suc n) at (p ∷ ps) d h q c =
       both-true _ _
-      (rw (clear-length line kind at p ps d c) at (value-permitted line kind (p .letter) l (valueText p d) (clear-value line kind at p ps d c .0)))
-      (values-permitted n (behind p at) ps (after p d) (omega arith) (clear-after line kind at p ps d c))
+      (rw (clear-length line kind at p ps d c) at
+      (value-permitted line kind (p .letter) l (valueText p d) (clear-narrow line kind at p ps d c (both-left _ _ q))
+      (clear-value line kind at p ps d c .0)))
+      (values-permitted n (behind p at) ps (after p d) (omega arith) (both-right (narrowSlot p) _ q) (clear-after line kind at p ps d c))
 
   -- and their packets are the field
-  pub values-data : (n at : ℕ) (ps : List Slot) (d : List ℕ) → length ps ≤ n → Clear line kind at ps d → dataOf ps (valuesIn n ps d) ≡ d
+  pub values-data : (n at : ℕ) (ps : List Slot) (d : List ℕ) → length ps ≤ n → every narrowSlot ps ≡ true → Clear line kind at ps d → dataOf ps (valuesIn n ps d) ≡ d
   unfolding dataOf valuesIn
-  values-data n at [] [] h c = refl
-  values-data n at [] (b ∷ d) h c = absurd (unfold widthIn in (omega (arith, c .filled)))
-  values-data zero at (p ∷ ps) d h c = absurd (omega arith)
-  values-data (suc n) at (p ∷ ps) d h c =
+  values-data n at [] [] h q c = refl
+  values-data n at [] (b ∷ d) h q c = absurd (unfold widthIn in (omega (arith, c .filled)))
+  values-data zero at (p ∷ ps) d h q c = absurd (omega arith)
+  values-data (suc n) at (p ∷ ps) d h q c =
       rw (
-        rw (clear-length line kind at p ps d c) at (value-text line kind (p .letter) l (valueText p d) (clear-value line kind at p ps d c .0)),
-        values-data n (behind p at) ps (after p d) (omega arith) (clear-after line kind at p ps d c),
+        rw (clear-length line kind at p ps d c) at (value-text line kind (p .letter) l (valueText p d) (clear-narrow line kind at p ps d c (both-left _ _ q)) (clear-value line kind at p ps d c .0)),
+        values-data n (behind p at) ps (after p d) (omega arith) (both-right (narrowSlot p) _ q) (clear-after line kind at p ps d c),
       )
       (clear-split line kind at p ps d c)

@@ -89,6 +89,15 @@ module _ (kind number : ℕ) (d : List ℕ) where
   unfolding frameOf bodyOf countText numeralOn
   frame-number = refl
 
+  -- the first letter stands at index 5
+  pub frame-letter : 0 < length d → getD (frameOf kind number d) 5 0 ≡ getD d 0 0
+  unfolding frameOf bodyOf countText numeralOn
+  frame-letter h = go d h
+    where
+      go : (e : List ℕ) → 0 < length e → getD (e ++ tail) 0 0 ≡ getD e 0 0
+      go [] z = absurd (omega arith)
+      go (b ∷ e) z = refl
+
   pub frame-field : fieldOf (frameOf kind number d) ≡ d
   unfolding fieldOf frameOf bodyOf countText numeralOn
   frame-field = take-at d tail (length (frameOf kind number d) - 8) (omega (arith, frame-length))

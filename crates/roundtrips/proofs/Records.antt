@@ -11,10 +11,11 @@ use borrow.Author.Tests.{ltb-true, lt-ltb}
 use Rattle.laws.specs.Truth.{All}
 use Rattle.laws.specs.Numerals.{numeralOn, leftOf, numberOn}
 use Rattle.laws.proofs.Truths.{clash, both-left, both-right}
-use Rattle.forms.specs.Forms.{Slot, forms, isLine, formOf, slotsIn, countOf, slotsOf}
-use Rattle.packets.specs.Packets.{packetOf, leadOf, isDecimal, permits}
-use Rattle.records.specs.Records.{typeOf, paired, radioValues, fieldsOf, valuesOf, radioOf, recordOf}
-use Rattle.values.specs.Values.{textOf, valueOf, bodyOf, permittedFrom, permitted, permitsValue, permitsValues, permitsRecord}
+use Rattle.forms.specs.Lines.{isLine}
+use Rattle.forms.specs.Forms.{Slot, forms, formOf, slotsIn, countOf, slotsOf}
+use Rattle.packets.specs.Packets.{leadOf, isDecimal, permits}
+use Rattle.records.specs.Records.{typeOf, letterOf, paired, radioValues, fieldsOf, valuesOf, radioOf, recordOf}
+use Rattle.values.specs.Values.{rowOf, narrow, textOf, valueOf, bodyOf, permittedFrom, permitsValue, permitsValues, permitsRecord}
 use Rattle.records.specs.declared.records.Radio.{Radio}
 use Rattle.records.specs.declared.records.Record.{Record}
 use Rattle.records.specs.declared.records.Record.the-variants.{Approved, Rejected, Request, Idling, Test, Stop, RadioFault, Fault, Position, Train, TrainData, RadioData, RadioUpdate, Transponder}
@@ -26,7 +27,7 @@ use Rattle.roundtrips.proofs.Fields.{first-value, more-values}
 
 -- no V is 0
 no-watch : (line kind : ℕ) → permitsValue line kind (code "V") 3 0 ≡ false
-unfolding numeralOn leftOf packetOf leadOf isDecimal permits textOf bodyOf permittedFrom permitted permitsValue
+unfolding numeralOn leftOf leadOf isDecimal permits textOf bodyOf permittedFrom permitsValue
 no-watch line kind = refl
 
 -- a choice that is not 0 passed both of its tests
@@ -65,24 +66,24 @@ value-at line kind (suc i) (p ∷ ps) (v ∷ vs) b h = value-at line kind i ps v
 
 module _ (line : ℕ) (r : Record) (h : permitsRecord line r ≡ true) where
   -- the type of a permitted record is on the line
-  pub permitted-found : formOf line (typeOf r) .found ≡ true
+  pub permitted-found : rowOf line r .found ≡ true
   unfolding permitsRecord
   permitted-found = both-left _ _ h
 
   -- so its line is 1, 2 or 3
   pub permitted-line : isLine line ≡ true
-  permitted-line = found-line line (typeOf r) permitted-found
+  permitted-line = found-line line (typeOf r) (letterOf r) permitted-found
 
   -- and its values are permitted
-  pub permitted-values : permitsValues line (typeOf r) (slotsOf (formOf line (typeOf r) .form)) (valuesOf r) ≡ true
+  pub permitted-values : permitsValues line (typeOf r) (slotsOf (rowOf line r .form)) (valuesOf r) ≡ true
   unfolding permitsRecord
-  permitted-values = both-right (formOf line (typeOf r) .found) _ h
+  permitted-values = both-right (rowOf line r .found) _ h
 
   -- in a permitted record V's characters are bytes, so F D C M V P are told apart again
   radio-again : (k : Radio) (more : List ℕ) → isRadio (typeOf r) ≡ true → 4 < length (fieldsOf (recordOf (typeOf r) [])) → valuesOf r ≡ radioValues k more → radioOf (valuesOf r) ≡ k
   radio-again k more e b v =
-      let f = row line (typeOf r) permitted-found in
-      let p = value-at line (typeOf r) 4 (slotsOf (formOf line (typeOf r) .form)) (valuesOf r) (omega (arith, f .count [])) permitted-values in
+      let f = row line (typeOf r) (letterOf r) permitted-found in
+      let p = value-at line (typeOf r) 4 (slotsOf (rowOf line r .form)) (valuesOf r) (omega (arith, f .count [])) permitted-values in
       rw v (radio-back k more (watch-bytes line (typeOf r) (k .left) (k .right) (rw (f .watch e .0, f .watch e .1, v) at p)))
 
 -- a permitted record is made again of its type and values
@@ -105,7 +106,7 @@ record-again line (Transponder k w x y z) h = ap (λ (j : Radio). Transponder j 
 
 -- V's characters say a number of two bytes, permitted or not
 watch-small : (s : List ℕ) → valueOf (code "V") (take 3 s) < 65536
-unfolding packetOf leadOf isDecimal valueOf numberOn
+unfolding leadOf isDecimal narrow valueOf numberOn
 watch-small [] = omega arith
 watch-small (a ∷ []) = omega arith
 watch-small (a ∷ b ∷ []) = omega arith
@@ -147,6 +148,6 @@ again = (
 )
 
 -- the values of a record that was read are those that it was made of
-pub values-again : (line kind : ℕ) (d : List ℕ) → formOf line kind .found ≡ true
-    → valuesOf (recordOf kind (valuesIn 10 (slotsOf (formOf line kind .form)) d)) ≡ valuesIn 10 (slotsOf (formOf line kind .form)) d
-values-again line kind d h = let r = found-row Again line kind again h in rw (r .of-type) at (r .has d)
+pub values-again : (line kind letter : ℕ) (d : List ℕ) → formOf line kind letter .found ≡ true
+    → valuesOf (recordOf kind (valuesIn 10 (slotsOf (formOf line kind letter .form)) d)) ≡ valuesIn 10 (slotsOf (formOf line kind letter .form)) d
+values-again line kind letter d h = let r = found-row Again line kind again letter h in rw (r .of-type) at (r .has d)

@@ -11,14 +11,20 @@ use Rattle.laws.specs.Text.{codes}
 use Rattle.laws.specs.Truth.{oneOf, every, All}
 use Rattle.laws.proofs.Passes.{every-all}
 use Rattle.characters.specs.Characters.{inSet}
-use Rattle.forms.specs.Forms.{Slot, forms, formOf, slotsIn, countOf, slotsOf, widthIn, widthOf}
-use Rattle.records.specs.Records.{typeOf, fieldsOf, recordOf}
+use Rattle.forms.specs.Forms.{Slot, forms, firstLetter, formOf, slotsIn, countOf, slotsOf, widthIn, widthOf}
+use Rattle.records.specs.Records.{typeOf, letterOf, fieldsOf, recordOf}
+use Rattle.packets.specs.Packets.{isDecimal}
+use Rattle.values.specs.Values.{narrow}
 use Rattle.forms.specs.declared.table.Form.{Form}
 use Rattle.forms.proofs.Found.{Found, found-row}
 
 -- what stands for a packet where there is none
 abbrev pub noSlot : Slot
 noSlot = record { letter = 0; len = 0 }
+
+-- a packet's value is a number of 32 bits
+abbrev pub narrowSlot : Slot → Bool
+narrowSlot p = narrow (p .letter) (p .len)
 
 -- the types that carry F D C M V P
 abbrev pub isRadio : ℕ → Bool
@@ -35,13 +41,16 @@ tests vs f =
     eqb (typeOf (recordOf (f .kind) vs)) (f .kind) ∷
     cond (isRadio (f .kind)) (eqb (getD (slotsOf f) 4 noSlot .letter) (code "V")) true ∷
     cond (isRadio (f .kind)) (eqb (getD (slotsOf f) 4 noSlot .len) 3) true ∷
+    every narrowSlot (slotsOf f) ∷
+    eqb (getD (slotsOf f) 0 noSlot .letter) (firstLetter f) ∷
+    eqb (letterOf (recordOf (f .kind) vs)) (firstLetter f) ∷
     []
 
 abbrev passing : List ℕ → Form → Bool
 passing vs f = every (λ (t : Bool). t) (tests vs f)
 
 passes : (vs : List ℕ) → every (passing vs) forms ≡ true
-unfolding inSet forms slotsIn countOf slotsOf widthIn widthOf recordOf
+unfolding inSet forms slotsIn countOf slotsOf widthIn widthOf recordOf narrow isDecimal
 passes vs = refl
 
 -- what the tests say of the row of a type
@@ -53,6 +62,9 @@ pub record Row (kind : ℕ) (f : Form) : Type 0 where
   pub count : (vs : List ℕ) → length (slotsOf f) ≡ length (fieldsOf (recordOf kind vs))
   pub type : (vs : List ℕ) → typeOf (recordOf kind vs) ≡ kind
   pub watch : isRadio kind ≡ true → (getD (slotsOf f) 4 noSlot .letter ≡ code "V") × (getD (slotsOf f) 4 noSlot .len ≡ 3)
+  pub values-narrow : every narrowSlot (slotsOf f) ≡ true
+  pub first : getD (slotsOf f) 0 noSlot .letter ≡ firstLetter f
+  pub letter : (vs : List ℕ) → letterOf (recordOf kind vs) ≡ firstLetter f
 
 told : (f : Form) → ((vs : List ℕ) → passing vs f ≡ true) → Row (f .kind) f
 told f h =
@@ -64,14 +76,17 @@ told f h =
       count = λ vs. eqb-true _ _ (a vs .1 .1 .1 .1 .0);
       type = λ vs. eqb-true _ _ (a vs .1 .1 .1 .1 .1 .0);
       watch = λ e. (eqb-true _ _ (rw e at (a [] .1 .1 .1 .1 .1 .1 .0)), eqb-true _ _ (rw e at (a [] .1 .1 .1 .1 .1 .1 .1 .0)));
+      values-narrow = a [] .1 .1 .1 .1 .1 .1 .1 .1 .0;
+      first = eqb-true _ _ (a [] .1 .1 .1 .1 .1 .1 .1 .1 .1 .0);
+      letter = λ vs. eqb-true _ _ (a vs .1 .1 .1 .1 .1 .1 .1 .1 .1 .1 .0);
     }
   where
     a : (vs : List ℕ) → All (λ (t : Bool). t ≡ true) (tests vs f)
     a vs = every-all (λ (t : Bool). t) (tests vs f) (h vs)
 
--- what is true of the form of a type that is on a line
-pub row : (line kind : ℕ) → formOf line kind .found ≡ true → Row kind (formOf line kind .form)
-row line kind h = rw (r [] .of-type) at (told (formOf line kind .form) (λ vs. r vs .has))
+-- what is true of the form of a type and letter that is on a line
+pub row : (line kind letter : ℕ) → formOf line kind letter .found ≡ true → Row kind (formOf line kind letter .form)
+row line kind letter h = rw (r [] .of-type) at (told (formOf line kind letter .form) (λ vs. r vs .has))
   where
-    r : (vs : List ℕ) → Found (λ (f : Form). passing vs f ≡ true) line kind (formOf line kind .form)
-    r vs = found-row (λ (f : Form). passing vs f ≡ true) line kind (every-all (passing vs) forms (passes vs)) h
+    r : (vs : List ℕ) → Found (λ (f : Form). passing vs f ≡ true) line kind (formOf line kind letter .form)
+    r vs = found-row (λ (f : Form). passing vs f ≡ true) line kind (every-all (passing vs) forms (passes vs)) letter h

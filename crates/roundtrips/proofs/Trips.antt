@@ -6,9 +6,10 @@ use Prim.Native.Nat.{ℕ, _+_, _≤_, _<_}
 use native.Mathlib.Omega.{arith}
 use lib.ListN.{length, drop}
 use borrow.Author.Tests.{lt-ltb, le-leb}
-use Rattle.forms.specs.Forms.{isLine, formOf, widthOf}
-use Rattle.records.specs.Records.{typeOf}
-use Rattle.values.specs.Values.{permitsRecord, lengthOf}
+use Rattle.forms.specs.Lines.{isLine}
+use Rattle.forms.specs.Forms.{widthOf}
+use Rattle.records.specs.Records.{typeOf, letterOf}
+use Rattle.values.specs.Values.{rowOf, permitsRecord, lengthOf}
 use Rattle.values.proofs.Recorded.{length-row}
 use Rattle.records.specs.declared.records.Record.{Record}
 use Rattle.reading.specs.Answers.{accepted, written}
@@ -54,14 +55,14 @@ one-telegram line = (one-record, one-text)
     one-text s t r n h k = sym (read-permitted line s r n h .1 .1 .1) ∙ read-permitted line t r n k .1 .1 .1
 
 -- the length of a permitted record's telegram is its form's width and 8 more
-form-length : (line : ℕ) (rec : Record) → permitsRecord line rec ≡ true → 8 + widthOf (formOf line (typeOf rec) .form) ≡ lengthOf line rec
-form-length line rec h = length-row line rec (typeOf rec) (formOf line (typeOf rec)) refl refl (permitted-found line rec h)
+form-length : (line : ℕ) (rec : Record) → permitsRecord line rec ≡ true → 8 + widthOf (rowOf line rec .form) ≡ lengthOf line rec
+form-length line rec h = length-row line rec (rowOf line rec) refl (permitted-found line rec h)
 
 pub telegram-length : TelegramLength
 telegram-length line rec number h = written-length line rec h number ∙ form-length line rec h
 
 pub length-bounds : LengthBounds
-length-bounds line rec h = let r = row line (typeOf rec) (permitted-found line rec h) in omega (arith, form-length line rec h, r .wide, r .narrow)
+length-bounds line rec h = let r = row line (typeOf rec) (letterOf rec) (permitted-found line rec h) in omega (arith, form-length line rec h, r .wide, r .narrow)
 
 pub output : Output
 unfolding writingOf

@@ -14,9 +14,9 @@ use Rattle.laws.proofs.Truths.{both-left, both-right, both-true}
 use Rattle.laws.proofs.Passes.{both-off}
 use Rattle.laws.proofs.Digits.{AllDigits, number-numeral, numeral-number, nothing-left, numeral-length}
 use Rattle.characters.specs.Characters.{inSet}
-use Rattle.forms.specs.Forms.{isLine}
+use Rattle.forms.specs.Lines.{isLine}
 use Rattle.packets.specs.Packets.{leadOf, isDecimal, permits}
-use Rattle.values.specs.Values.{led, textOf, valueOf, bodyOf, permittedFrom, permitted, permitsValue}
+use Rattle.values.specs.Values.{led, narrow, textOf, valueOf, bodyOf, permittedFrom, numberFits, permitted, permitsValue}
 use Rattle.roundtrips.proofs.Bytes.{leads, permits-set, permits-lead, permits-digit}
 
 -- the w characters of a number, where t says that no lead stands in front
@@ -66,66 +66,76 @@ number-left false lead d (b ∷ bs) a = rw (sub-one (suc (length bs))) (nothing-
 
 module _ (line kind letter : ℕ) (l : isLine line ≡ true) where
   -- from each place on, permitted bytes are of the set
-  set-from : (last at : ℕ) (text : List ℕ) → permittedFrom line kind letter last at text ≡ true → every inSet text ≡ true
+  set-from : (at : ℕ) (text : List ℕ) → permittedFrom line kind letter at text ≡ true → every inSet text ≡ true
   unfolding permittedFrom
-  set-from last at [] h = refl
-  set-from last at (b ∷ bs) h =
-      both-true (inSet b) (every inSet bs) (permits-set line kind letter last at b l (both-left _ _ h))
-      (set-from last (at + 1) bs (both-right (permits line kind letter last at b) _ h))
+  set-from at [] h = refl
+  set-from at (b ∷ bs) h =
+      both-true (inSet b) (every inSet bs) (permits-set line kind letter at b l (both-left _ _ h)) (set-from (at + 1) bs (both-right (permits line kind letter at b) _ h))
 
-  -- permitted characters are of the set
-  pub permitted-set : (text : List ℕ) → permitted line kind letter text ≡ true → every inSet text ≡ true
+  -- a permitted value's characters are permitted
+  characters : (text : List ℕ) → permitted line kind letter text ≡ true → permittedFrom line kind letter 0 text ≡ true
   unfolding permitted
-  permitted-set text h = set-from (getD text (length text - 1) 0) 0 text h
+  characters text h = both-left _ _ h
+
+  -- they are of the set
+  pub permitted-set : (text : List ℕ) → permitted line kind letter text ≡ true → every inSet text ≡ true
+  permitted-set text h = set-from 0 text (characters text h)
 
   -- a lead stands only at the first place
   later : (at : ℕ) → leads letter (at + 1) ≡ false
   later at = both-off (not (eqb (leadOf letter) 0)) (eqb (at + 1) 0) (ne-eqb (at + 1) 0 (λ e. omega arith))
 
   -- from each place on where no lead stands, permitted bytes are digits of the value's base
-  digits-from : (last at : ℕ) (text : List ℕ) → leads letter at ≡ false → permittedFrom line kind letter last at text ≡ true → AllDigits (isDecimal letter) text
+  digits-from : (at : ℕ) (text : List ℕ) → leads letter at ≡ false → permittedFrom line kind letter at text ≡ true → AllDigits (isDecimal letter) text
   unfolding permittedFrom AllDigits
-  digits-from last at [] e h = tt
-  digits-from last at (b ∷ bs) e h =
-      let k = permits-digit line kind letter last at b l (both-left _ _ h) e in
-      (k .0, k .1, digits-from last (at + 1) bs (later at) (both-right (permits line kind letter last at b) _ h))
+  digits-from at [] e h = tt
+  digits-from at (b ∷ bs) e h =
+      let k = permits-digit line kind letter at b l (both-left _ _ h) e in
+      (k .0, k .1, digits-from (at + 1) bs (later at) (both-right (permits line kind letter at b) _ h))
 
   -- so permitted characters are in the right places
-  spelt : (t : Bool) (last : ℕ) (text : List ℕ) → eqb (leadOf letter) 0 ≡ t → permittedFrom line kind letter last 0 text ≡ true → Spelt t (leadOf letter) (isDecimal letter) text
+  spelt : (t : Bool) (text : List ℕ) → eqb (leadOf letter) 0 ≡ t → permittedFrom line kind letter 0 text ≡ true → Spelt t (leadOf letter) (isDecimal letter) text
   unfolding permittedFrom
-  spelt true last text e h = digits-from last 0 text (rw e refl) h
-  spelt false last [] e h = tt
-  spelt false last (b ∷ bs) e h = (
-    permits-lead line kind letter last 0 b l (both-left _ _ h) (rw e refl),
-    digits-from last 1 bs (later 0) (both-right (permits line kind letter last 0 b) _ h),
-  )
+  spelt true text e h = digits-from 0 text (rw e refl) h
+  spelt false [] e h = tt
+  spelt false (b ∷ bs) e h =
+      (permits-lead line kind letter 0 b l (both-left _ _ h) (rw e refl), digits-from 1 bs (later 0) (both-right (permits line kind letter 0 b) _ h))
 
   permitted-spelt : (text : List ℕ) → permitted line kind letter text ≡ true → Spelt (eqb (leadOf letter) 0) (leadOf letter) (isDecimal letter) text
-  unfolding permitted
-  permitted-spelt text h = spelt (eqb (leadOf letter) 0) (getD text (length text - 1) 0) text refl h
+  permitted-spelt text h = spelt (eqb (leadOf letter) 0) text refl (characters text h)
 
-  -- permitted characters are the characters of their number
-  pub value-text : (text : List ℕ) → permitted line kind letter text ≡ true → textOf letter (length text) (valueOf letter text) ≡ text
-  unfolding textOf valueOf
-  value-text text h = number-spell (eqb (leadOf letter) 0) (leadOf letter) (isDecimal letter) text (permitted-spelt text h)
+  module _ (text : List ℕ) (s : narrow letter (length text) ≡ true) (h : permitted line kind letter text ≡ true) where
+    -- permitted characters are the characters of their number
+    pub value-text : textOf letter (length text) (valueOf letter text) ≡ text
+    unfolding textOf valueOf
+    value-text = rw s (number-spell (eqb (leadOf letter) 0) (leadOf letter) (isDecimal letter) text (permitted-spelt text h))
 
-  -- nothing is left of their number
-  nothing : (text : List ℕ) → permitted line kind letter text ≡ true → leftOf (isDecimal letter) (bodyOf letter (length text)) (valueOf letter text) ≡ 0
-  unfolding bodyOf valueOf
-  nothing text h = number-left (eqb (leadOf letter) 0) (leadOf letter) (isDecimal letter) text (permitted-spelt text h)
+    -- nothing is left of their number
+    nothing : leftOf (isDecimal letter) (bodyOf letter (length text)) (valueOf letter text) ≡ 0
+    unfolding bodyOf valueOf
+    nothing = rw s (number-left (eqb (leadOf letter) 0) (leadOf letter) (isDecimal letter) text (permitted-spelt text h))
 
-  -- so their number is permitted
-  pub value-permitted : (text : List ℕ) → permitted line kind letter text ≡ true → permitsValue line kind letter (length text) (valueOf letter text) ≡ true
-  unfolding permitsValue
-  value-permitted text h = both-true _ _ (eq-eqb _ _ (nothing text h)) (rw (value-text text h) h)
+    -- so their number is permitted
+    pub value-permitted : permitsValue line kind letter (length text) (valueOf letter text) ≡ true
+    unfolding permitsValue permitted
+    value-permitted =
+        let v = valueOf letter text in
+        both-true _ _ (eq-eqb _ _ nothing)
+        (both-true (permittedFrom line kind letter 0 (textOf letter (length text) v)) (numberFits line letter (length text) v)
+        (rw value-text (characters text h)) (both-right (permittedFrom line kind letter 0 text) _ h))
 
-module _ (line kind letter w n : ℕ) (h : permitsValue line kind letter w n ≡ true) where
-  -- a permitted number's characters are permitted
-  pub text-permitted : permitted line kind letter (textOf letter w n) ≡ true
-  unfolding permitsValue
-  text-permitted = both-right (eqb (leftOf (isDecimal letter) (bodyOf letter w) n) 0) (permitted line kind letter (textOf letter w n)) h
-
-  -- and say the number
+module _ (line kind letter w n : ℕ) (s : narrow letter w ≡ true) (h : permitsValue line kind letter w n ≡ true) where
+  -- a permitted number's characters say the number
   pub text-value : valueOf letter (textOf letter w n) ≡ n
   unfolding permitsValue textOf valueOf bodyOf
-  text-value = spell-number (eqb (leadOf letter) 0) (leadOf letter) (isDecimal letter) w n (eqb-true _ _ (both-left _ _ h))
+  text-value =
+      rw (text-length letter w n, s) (spell-number (eqb (leadOf letter) 0) (leadOf letter) (isDecimal letter) w n (eqb-true _ _ (both-left _ _ h)))
+
+  -- and are permitted
+  pub text-permitted : permitted line kind letter (textOf letter w n) ≡ true
+  unfolding permitsValue permitted
+  text-permitted =
+      let k = both-right (eqb (leftOf (isDecimal letter) (bodyOf letter w) n) 0) _ h in
+      let t = textOf letter w n in
+      both-true (permittedFrom line kind letter 0 t) (numberFits line letter (length t) (valueOf letter t))
+      (both-left _ _ k) (rw (text-length letter w n, text-value) (both-right (permittedFrom line kind letter 0 t) _ k))
