@@ -3,9 +3,10 @@ use mathlib.Core.Path.{refl}
 use Rattle.laws.specs.Numerals.{numeralOn, numberOn}
 use Rattle.characters.specs.Characters.{inSet}
 use Rattle.characters.specs.Checksum.{total, checksumOf, checkText}
-use Rattle.forms.specs.Forms.{forms, onLine, lookIn, formOf, dataIn, dataType, slotsIn, countOf, slotsOf, widthIn, widthOf}
-use Rattle.packets.specs.Packets.{packetOf, leadOf, isDecimal, permits}
-use Rattle.values.specs.Values.{valueOf, permittedFrom, permitted}
+use Rattle.forms.specs.Lines.{lineOf}
+use Rattle.forms.specs.Forms.{forms, onLine, lookIn, formOf, dataType, slotsIn, countOf, slotsOf, widthIn, widthOf, typeRow}
+use Rattle.packets.specs.Packets.{leadOf, isDecimal, permits, ruled, permitsNumber}
+use Rattle.values.specs.Values.{valueOf, permittedFrom, permitted, narrow, numberFits}
 use Rattle.records.specs.Records.{recordOf}
 use Rattle.reading.specs.Frame.{countText, summedOf, fieldOf, frameChecks}
 use Rattle.reading.specs.Field.{outside, wrongLetter, badValue, valuesIn, misshapen, fieldChecks}
@@ -13,7 +14,7 @@ use Rattle.reading.specs.Reading.{recordIn, checks, readingOf}
 use Rattle.papers.specs.Cases.{EveryCase}
 
 pub every-case : EveryCase
-unfolding numeralOn numberOn inSet total checksumOf checkText forms onLine lookIn formOf dataIn dataType slotsIn countOf slotsOf widthIn widthOf
-    packetOf leadOf isDecimal permits valueOf permittedFrom permitted recordOf countText summedOf fieldOf frameChecks outside wrongLetter badValue
+unfolding numeralOn numberOn inSet total checksumOf checkText forms onLine lookIn formOf typeRow dataType slotsIn countOf slotsOf widthIn widthOf
+    leadOf isDecimal lineOf permits ruled permitsNumber narrow numberFits valueOf permittedFrom permitted recordOf countText summedOf fieldOf frameChecks outside wrongLetter badValue
     valuesIn misshapen fieldChecks recordIn checks readingOf
 every-case = (refl, (refl, (refl, (refl, (refl, (refl, (refl, (refl, (refl, (refl, tt))))))))))

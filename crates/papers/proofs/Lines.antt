@@ -5,13 +5,13 @@ use Prim.Native.Nat.{ℕ}
 use Rattle.laws.specs.Truth.{oneOf}
 use Rattle.laws.proofs.Truths.{both-left, both-right, clash, not-true}
 use Rattle.laws.proofs.Passes.{on-test, same-test, every-all, all-map, oneOf-passes}
-use Rattle.forms.specs.Forms.{forms, onLine, lookIn, formOf, byMaster, bySlave, dataIn, dataType}
+use Rattle.forms.specs.Forms.{forms, onLine, lookIn, formOf, byMaster, bySlave, dataType, typeRow}
 use Rattle.forms.specs.declared.table.Form.{Form}
-use Rattle.forms.proofs.Found.{found-row, found-line}
+use Rattle.forms.proofs.Found.{found-type, found-line}
 use Rattle.papers.specs.Lines.{Line, listedBy, paper, Agrees, Exact, SameLines, NoTwoRows, ExactLines, NoOtherLine}
 
 pub same-lines : SameLines
-unfolding forms onLine lookIn formOf dataIn dataType
+unfolding forms onLine lookIn formOf typeRow dataType
 same-lines = search
 
 pub no-two-rows : NoTwoRows
@@ -20,23 +20,23 @@ no-two-rows = refl
 
 module _ (l : Line) (a : Agrees l) (b : ℕ) where
   -- the row of a type on the line is sent by the end that lists the type
-  listed : (sender : Bool) → formOf (l .line) b .found ≡ true → formOf (l .line) b .form .master ≡ sender → oneOf (cond sender (l .masters) (l .slaves)) b ≡ true
+  listed : (sender : Bool) → typeRow (l .line) b .found ≡ true → typeRow (l .line) b .form .master ≡ sender → oneOf (cond sender (l .masters) (l .slaves)) b ≡ true
   listed sender h m =
-      let r = found-row (λ (f : Form). listedBy l f ≡ true) (l .line) b (every-all (listedBy l) forms (a .rows-listed)) h in
+      let r = found-type (λ (f : Form). listedBy l f ≡ true) (l .line) b (every-all (listedBy l) forms (a .rows-listed)) h in
       rw (r .on-line, m, r .of-type) at (r .has)
 
   -- the types that the master sends
   masters-exact : byMaster (l .line) b ≡ oneOf (l .masters) b
   masters-exact =
       same-test (byMaster (l .line) b) (oneOf (l .masters) b)
-      (λ h. listed true (both-left _ _ h) (both-right (formOf (l .line) b .found) _ h))
+      (λ h. listed true (both-left _ _ h) (both-right (typeRow (l .line) b .found) _ h))
       (oneOf-passes (byMaster (l .line)) (l .masters) b (a .masters-sent))
 
   -- the types that the slave sends
   slaves-exact : bySlave (l .line) b ≡ oneOf (l .slaves) b
   slaves-exact =
       same-test (bySlave (l .line) b) (oneOf (l .slaves) b)
-      (λ h. listed false (both-left _ _ h) (not-true _ (both-right (formOf (l .line) b .found) _ h)))
+      (λ h. listed false (both-left _ _ h) (not-true _ (both-right (typeRow (l .line) b .found) _ h)))
       (oneOf-passes (bySlave (l .line)) (l .slaves) b (a .slaves-sent))
 
 -- a line on which they agree is exact
@@ -47,4 +47,4 @@ pub exact-lines : ExactLines
 exact-lines = all-map Agrees Exact exact paper same-lines
 
 pub no-other-line : NoOtherLine
-no-other-line line kind h = on-test (formOf line kind .found) (λ f. clash (sym h ∙ found-line line kind f)) (λ f. f)
+no-other-line line kind letter h = on-test (formOf line kind letter .found) (λ f. clash (sym h ∙ found-line line kind letter f)) (λ f. f)

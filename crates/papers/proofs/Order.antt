@@ -5,13 +5,14 @@ use Prim.Native.Nat.{ℕ, zero, suc, _+_, _-_, _<_}
 use native.Mathlib.Omega.{arith}
 use lib.ListN.{length, getD}
 use Rattle.records.specs.Refusals.{No, no}
-use Rattle.laws.specs.Numerals.{numeralOn}
+use Rattle.laws.specs.Numerals.{numeralOn, numberOn}
 use Rattle.laws.proofs.Truths.{clash}
 use Rattle.characters.specs.Characters.{inSet}
 use Rattle.characters.specs.Checksum.{total, checksumOf, checkText}
-use Rattle.forms.specs.Forms.{forms, onLine, lookIn, formOf, slotsIn, countOf, slotsOf, widthIn, widthOf}
-use Rattle.packets.specs.Packets.{packetOf, permits}
-use Rattle.values.specs.Values.{permittedFrom, permitted}
+use Rattle.forms.specs.Lines.{lineOf}
+use Rattle.forms.specs.Forms.{forms, onLine, lookIn, formOf, slotsIn, countOf, slotsOf, widthIn, widthOf, typeRow}
+use Rattle.packets.specs.Packets.{leadOf, isDecimal, permits, ruled, permitsNumber}
+use Rattle.values.specs.Values.{valueOf, permittedFrom, permitted, narrow, numberFits}
 use Rattle.records.specs.declared.records.Record.{Record}
 use Rattle.reading.specs.declared.answers.Spot.{Spot}
 use Rattle.reading.specs.declared.answers.Spot.the-variants.{Nowhere, At}
@@ -25,7 +26,8 @@ use Rattle.reading.proofs.Contents as contents
 use Rattle.papers.specs.Order.{EveryRefusal, EachOccurs, Eleven, RefusedFirst, AcceptedClean, NoLine}
 
 pub every-refusal : EveryRefusal
-unfolding numeralOn inSet total checksumOf checkText forms onLine lookIn formOf slotsIn countOf slotsOf widthIn widthOf packetOf permits permittedFrom
+unfolding numeralOn inSet total checksumOf checkText forms onLine lookIn formOf typeRow slotsIn countOf slotsOf widthIn widthOf
+    lineOf leadOf isDecimal permits ruled permitsNumber narrow numberFits valueOf numberOn permittedFrom
     permitted countText summedOf fieldOf frameChecks outside wrongLetter badValue misshapen fieldChecks checks readingOf
 every-refusal = (refl, (refl, (refl, (refl, (refl, (refl, (refl, (refl, (refl, (refl, (refl, (refl, (refl, (refl, (refl, tt)))))))))))))))
 

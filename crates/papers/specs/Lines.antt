@@ -73,4 +73,4 @@ ExactLines = All Exact paper
 
 -- no type is on another line
 abbrev pub NoOtherLine : Type 0
-NoOtherLine = (line kind : ℕ) → isLine line ≡ false → formOf line kind .found ≡ false
+NoOtherLine = (line kind letter : ℕ) → isLine line ≡ false → formOf line kind letter .found ≡ false

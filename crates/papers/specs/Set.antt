@@ -35,4 +35,4 @@ LettersInSet = every lettersIn forms ≡ true
 
 -- every permitted byte of a value is a character of the set
 abbrev pub PermittedInSet : Type 0
-PermittedInSet = (line kind letter last at b : ℕ) → isLine line ≡ true → permits line kind letter last at b ≡ true → inSet b ≡ true
+PermittedInSet = (line kind letter at b : ℕ) → isLine line ≡ true → permits line kind letter at b ≡ true → inSet b ≡ true
