@@ -17,7 +17,7 @@ use Rattle.text.specs.Putting.{placed}
 use Rattle.listings.specs.Lines.{lineRoom}
 use Rattle.captures.specs.Pieces.{spanning, spansOf, wrapped, lineAt, linesIn, linesOf, stopped, listedIn, listPart}
 use Rattle.captures.proofs.Spans.{spans-step}
-use Rattle.captures.proofs.Whole.{lastEnd, nextOrdinal}
+use Rattle.captures.specs.Whole.{lastEnd, nextOrdinal}
 
 -- the lines so far stand in front, what lies behind them is kept, and the lines left are those from the next place on; not done, there is
 -- no room for any line; done, no telegram is left, and it stands behind the last one

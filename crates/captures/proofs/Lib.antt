@@ -5,4 +5,4 @@ pub mod Shifts
 pub mod Whole
 pub mod Runs
 pub mod Filled
-pub mod Example
+pub mod Sample

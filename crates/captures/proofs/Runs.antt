@@ -6,26 +6,11 @@ use native.Mathlib.Omega.{arith}
 use lib.ListN.{length, drop, length-append, length-drop}
 use Rattle.characters.specs.Marks.{unfinished}
 use Rattle.captures.specs.Pieces.{spansOn, spansOf, wrapped, linesIn, linesOf, keptFrom}
-use Rattle.captures.proofs.Whole.{lastEnd, nextOrdinal, in-two}
+use Rattle.captures.specs.Whole.{nextOrdinal, keptOf, runOf, joined, FewKept, InPieces}
+use Rattle.captures.proofs.Whole.{in-two}
 
--- where the kept bytes of a piece begin
-abbrev pub keptOf : List ℕ → ℕ
-keptOf s = keptFrom (lastEnd 0 (spansOf s 0)) (length s)
-
--- so at most 65 bytes are kept, whatever the input's length
-pub few-kept : (s : List ℕ) → length (drop (keptOf s) s) ≤ unfinished
+pub few-kept : FewKept
 few-kept s = omega (arith, length-drop (keptOf s) s)
-
--- the lines of pieces, each listed behind the bytes kept of what came before it
-unfoldable pub runOf : ℕ → ℕ → ℕ → List ℕ → List (List ℕ) → List ℕ
-runOf line ordinal base kept [] = []
-runOf line ordinal base kept (piece ∷ pieces) =
-    linesOf line ordinal base (kept ++ piece) 0
-    ++ runOf line (nextOrdinal ordinal (spansOf (kept ++ piece) 0)) (wrapped (base + keptOf (kept ++ piece))) (drop (keptOf (kept ++ piece)) (kept ++ piece)) pieces
-
-abbrev pub joined : List (List ℕ) → List ℕ
-joined [] = []
-joined (piece ∷ pieces) = piece ++ joined pieces
 
 -- nothing is behind what is the same without it
 nothing-behind : (xs ys : List ℕ) → xs ≡ xs ++ ys → ys ≡ []
@@ -49,7 +34,6 @@ module _ (line : ℕ) where
       ∙ sym (in-two (kept ++ piece) (joined pieces) line ordinal base 0 (omega arith))
       ∙ ap (λ (t : List ℕ). linesOf line ordinal base t 0) (append-assoc kept piece (joined pieces))
 
-  -- Whatever the pieces, their lines are those of the whole capture.
-  pub in-pieces : (pieces : List (List ℕ)) → runOf line 1 0 [] pieces ≡ linesOf line 1 0 (joined pieces) 0
-  unfolding linesOf linesIn spansOf spansOn
-  in-pieces pieces = onwards pieces 1 0 [] refl
+pub in-pieces : InPieces
+unfolding linesOf linesIn spansOf spansOn
+in-pieces line pieces = onwards line pieces 1 0 [] refl

@@ -13,17 +13,9 @@ use Rattle.cutting.specs.Search.{spanOf}
 use Rattle.cutting.specs.Telegrams.{Telegram, FirstTelegram}
 use Rattle.cutting.proofs.First.{span-first, search-answers}
 use Rattle.captures.specs.Pieces.{spanning, spansOf, wrapped, lineAt, linesIn, linesOf, keptFrom}
+use Rattle.captures.specs.Whole.{linesLeft, InTwo}
 use Rattle.captures.proofs.Spans.{found-within, none-behind, spans-step}
 use Rattle.captures.proofs.Shifts.{lines-further}
-
--- the end of the last telegram, and the next ordinal
-abbrev pub lastEnd : ℕ → List (ℕ × ℕ) → ℕ
-lastEnd place [] = place
-lastEnd place ((start, end) ∷ ps) = lastEnd end ps
-
-abbrev pub nextOrdinal : ℕ → List (ℕ × ℕ) → ℕ
-nextOrdinal ordinal [] = ordinal
-nextOrdinal ordinal (p ∷ ps) = nextOrdinal (wrapped (ordinal + 1)) ps
 
 module _ (a b : List ℕ) where
   -- the telegrams of a are those of a ++ b that end in a
@@ -91,12 +83,7 @@ module _ (a b : List ℕ) where
     unfolding linesOf
     lines-same s ordinal base place other h = ap (linesIn line ordinal base s) (spans-step s place ∙ ap (λ (p : Span). spanning p (spansOf s)) h ∙ sym (spans-step s other))
 
-    -- what is left to list behind a, from the bytes kept on
-    abbrev pub Later : ℕ → ℕ → ℕ → List (ℕ × ℕ) → List ℕ
-    Later ordinal base place ps =
-        linesOf line (nextOrdinal ordinal ps) (wrapped (base + keptFrom (lastEnd place ps) (length a))) (drop (keptFrom (lastEnd place ps) (length a)) a ++ b) 0
-
-    none-here : (ordinal base place : ℕ) → place ≤ length a → spanOf a place ≡ Nothing → linesOf line ordinal base (a ++ b) place ≡ Later ordinal base place []
+    none-here : (ordinal base place : ℕ) → place ≤ length a → spanOf a place ≡ Nothing → linesOf line ordinal base (a ++ b) place ≡ linesLeft a b line ordinal base place []
     none-here ordinal base place h e =
         let k = keptFrom place (length a) in
         let l : keptFrom place (length a) ≤ length a = omega arith in
@@ -108,7 +95,7 @@ module _ (a b : List ℕ) where
 
     -- the lines of a ++ b from a place on are those of a, and then those from the bytes kept on
     abbrev Both : ℕ → ℕ → ℕ → Type 0
-    Both ordinal base place = linesOf line ordinal base (a ++ b) place ≡ linesOf line ordinal base a place ++ Later ordinal base place (spansOf a place)
+    Both ordinal base place = linesOf line ordinal base (a ++ b) place ≡ linesOf line ordinal base a place ++ linesLeft a b line ordinal base place (spansOf a place)
 
     none-both : (ordinal base place : ℕ) → place ≤ length a → spanOf a place ≡ Nothing → Both ordinal base place
     unfolding linesOf linesIn
@@ -134,8 +121,5 @@ module _ (a b : List ℕ) where
             let w = found-within a place o e q in
             found-both ordinal base place o e q (later e (omega arith) (w .2))
 
-    -- For a stream a ++ b: listing a, keeping the bytes of a from behind its last telegram on but at most the last 65, and listing these and b,
-    -- with ordinal and offset moved on, gives the same lines as listing a ++ b in one go.
-    pub in-two : (ordinal base place : ℕ) → place ≤ length a
-        → linesOf line ordinal base (a ++ b) place ≡ linesOf line ordinal base a place ++ Later ordinal base place (spansOf a place)
-    in-two ordinal base place h = onwards (length a) ordinal base place (omega arith) h
+pub in-two : InTwo
+in-two a b line ordinal base place h = onwards a b line (length a) ordinal base place (omega arith) h
