@@ -20,25 +20,25 @@ use Rattle.cutting.specs.declared.search.Span.the-variants.{Found, Nothing}
 use Rattle.cutting.specs.Search.{spanOf, partOf}
 use Rattle.text.specs.Putting.{placed}
 use Rattle.listings.specs.Lines.{lineRoom, putting, linePut}
-use Rattle.captures.specs.Pieces.{spansOf, wrapped, lineAt, stepFor, stepAt, stepOf, stopped, listedIn}
+use Rattle.captures.specs.Pieces.{spansOf, wrapped, lineAt, nextFor, nextAt, nextLineOf, stopped, listedIn}
 use Rattle.captures.proofs.Spans.{found-within, spans-step}
-use Rattle.captures.specs.declared.pieces.Step as step
+use Rattle.captures.specs.declared.pieces.NextLine as next
 
 -- what putting a telegram's line does
 module _ (line ordinal base : ℕ) (s : List ℕ) (place : ℕ) (out : List ℕ) where
-  pub none-put : spanOf s place ≡ Nothing → (step.the-variants.Nothing, out) ≡ stepOf line ordinal base s place out
-  unfolding stepOf
+  pub none-put : spanOf s place ≡ Nothing → (next.the-variants.Nothing, out) ≡ nextLineOf line ordinal base s place out
+  unfolding nextLineOf
   none-put h = rw h
 
   pub one-put : (start end offset : ℕ) (part : List ℕ) (reading : Reading) (put : Writing) (x : List ℕ) (outcome : Outcome)
       → spanOf s place ≡ Found start end → offset ≡ wrapped (base + start) → part ≡ partOf s (Found start end) → answerOf reading ≡ readingOf line part
       → (outcomeOf put, x) ≡ linePut ordinal offset (answerOf reading) out → outcomeOf put ≡ outcome
-      → (stepFor end outcome, x) ≡ stepOf line ordinal base s place out
-  unfolding stepOf lineAt
+      → (nextFor end outcome, x) ≡ nextLineOf line ordinal base s place out
+  unfolding nextLineOf lineAt
   one-put start end offset part reading put x outcome f o p a e g =
       let r : answerOf reading ≡ readingOf line (partOf s (Found start end)) = a ∙ ap (readingOf line) p in
       let w : (outcome, x) ≡ putting (lineAt line ordinal base s (start, end)) out = ap {B = Write} (λ (y : Outcome). (y, x)) (sym g) ∙ e ∙ rw (o, r) in
-      rw f (ap {B = step.Step × List ℕ} (λ (y : Write). (stepFor end (y .0), y .1)) w)
+      rw f (ap {B = next.NextLine × List ℕ} (λ (y : Write). (nextFor end (y .0), y .1)) w)
 
 -- the first of the lines, where there is room for it
 first-line : (line ordinal base : ℕ) (s : List ℕ) (place : ℕ) (out : List ℕ) (filled start end : ℕ) → spanOf s place ≡ Found start end
@@ -70,18 +70,18 @@ module _ (line ordinal base : ℕ) (s : List ℕ) (place : ℕ) (out : List ℕ)
       rw (n, append-nil x, e, left-is, drop-drop (length t) filled out)
 
   -- what a step says of how the lines go on
-  abbrev pub Told : step.Step → List ℕ → Type 0
-  Told (step.the-variants.Line end n) x =
+  abbrev pub Told : next.NextLine → List ℕ → Type 0
+  Told (next.the-variants.Line end n) x =
       (place < end) × (end ≤ length s) × (length x ≡ length left → filled + n ≤ length out)
       × (listedIn line base s (spansOf s end) end (wrapped (ordinal + 1)) (filled + n) (putMid filled (length out - filled) out x) ≡ listedIn line base s (spansOf s place) place ordinal filled out)
-  Told step.the-variants.Full x = (stopped place ordinal filled false, putMid filled (length out - filled) out x) ≡ listedIn line base s (spansOf s place) place ordinal filled out
-  Told step.the-variants.Nothing x = (stopped place ordinal filled true, putMid filled (length out - filled) out x) ≡ listedIn line base s (spansOf s place) place ordinal filled out
+  Told next.the-variants.Full x = (stopped place ordinal filled false, putMid filled (length out - filled) out x) ≡ listedIn line base s (spansOf s place) place ordinal filled out
+  Told next.the-variants.Nothing x = (stopped place ordinal filled true, putMid filled (length out - filled) out x) ≡ listedIn line base s (spansOf s place) place ordinal filled out
 
   same-left : putMid filled (length out - filled) out left ≡ out
   unfolding placed
   same-left = put-left [] left refl ∙ rw (add-zero filled) (take-append-drop filled out)
 
-  found : (start end : ℕ) → spanOf s place ≡ Found start end → Told (stepAt line ordinal base s (Found start end) left .0) (stepAt line ordinal base s (Found start end) left .1)
+  found : (start end : ℕ) → spanOf s place ≡ Found start end → Told (nextAt line ordinal base s (Found start end) left .0) (nextAt line ordinal base s (Found start end) left .1)
   unfolding putting
   found start end h = go (leb lineRoom (length left)) refl
     where
@@ -93,7 +93,7 @@ module _ (line ordinal base : ℕ) (s : List ℕ) (place : ℕ) (out : List ℕ)
       room b q = first-line line ordinal base s place out filled start end h ∙ rw (← left-length, q)
 
       go : (b : Bool) → leb lineRoom (length left) ≡ b
-          → Told (stepFor end (cond {A = Write} b (written (length t), t ++ drop (length t) left) (refused (no 14 0), left) .0)) (cond {A = Write} b (written (length t), t ++ drop (length t) left) (refused (no 14 0), left) .1)
+          → Told (nextFor end (cond {A = Write} b (written (length t), t ++ drop (length t) left) (refused (no 14 0), left) .0)) (cond {A = Write} b (written (length t), t ++ drop (length t) left) (refused (no 14 0), left) .1)
       go true q =
           let w = found-within s place start end h in (
             omega arith,
@@ -103,17 +103,17 @@ module _ (line ordinal base : ℕ) (s : List ℕ) (place : ℕ) (out : List ℕ)
           )
       go false q = rw same-left (sym (room false q))
 
-  none : spanOf s place ≡ Nothing → Told step.the-variants.Nothing left
+  none : spanOf s place ≡ Nothing → Told next.the-variants.Nothing left
   unfolding listedIn
   none h = rw (same-left, spans-step s place, h)
 
-  told-at : (p : Span) → spanOf s place ≡ p → Told (stepAt line ordinal base s p left .0) (stepAt line ordinal base s p left .1)
+  told-at : (p : Span) → spanOf s place ≡ p → Told (nextAt line ordinal base s p left .0) (nextAt line ordinal base s p left .1)
   told-at (Found start end) h = found start end h
   told-at Nothing h = none h
 
-  pub told : (r q : step.Step) (x : List ℕ) → (r, x) ≡ stepOf line ordinal base s place left → r ≡ q → Told q x
-  unfolding stepOf
-  told r q x e h = go (q, x) (ap {B = step.Step × List ℕ} (λ (y : step.Step). (y, x)) (sym h) ∙ e)
+  pub told : (r q : next.NextLine) (x : List ℕ) → (r, x) ≡ nextLineOf line ordinal base s place left → r ≡ q → Told q x
+  unfolding nextLineOf
+  told r q x e h = go (q, x) (ap {B = next.NextLine × List ℕ} (λ (y : next.NextLine). (y, x)) (sym h) ∙ e)
     where
-      go : (y : step.Step × List ℕ) → y ≡ stepAt line ordinal base s (spanOf s place) left → Told (y .0) (y .1)
+      go : (y : next.NextLine × List ℕ) → y ≡ nextAt line ordinal base s (spanOf s place) left → Told (y .0) (y .1)
       go y f = rw f (told-at (spanOf s place) refl)

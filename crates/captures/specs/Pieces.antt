@@ -16,7 +16,7 @@ use Rattle.cutting.specs.Search.{spanOf, partOf}
 use Rattle.captures.specs.declared.pieces.Listed.{Listed}
 use Rattle.text.specs.Putting.{placed}
 use Rattle.listings.specs.Lines.{lineText, lineRoom, putting}
-use Rattle.captures.specs.declared.pieces.Step as step
+use Rattle.captures.specs.declared.pieces.NextLine as next
 
 -- what a search finds, before what later searches find from its end on
 abbrev pub spanning : Span → (ℕ → List (ℕ × ℕ)) → List (ℕ × ℕ)
@@ -61,17 +61,17 @@ listingOf [] = badLine
 listingOf (digit ∷ s) = cond (isLine (lineNamed digit)) (linesOf (lineNamed digit) 1 0 s 0) badLine
 
 -- the line of the next telegram, from the front of an output
-abbrev pub stepFor : ℕ → Outcome → step.Step
-stepFor end (written n) = step.the-variants.Line end n
-stepFor end (refused x) = step.the-variants.Full
+abbrev pub nextFor : ℕ → Outcome → next.NextLine
+nextFor end (written n) = next.the-variants.Line end n
+nextFor end (refused x) = next.the-variants.Full
 
-abbrev pub stepAt : ℕ → ℕ → ℕ → List ℕ → Span → List ℕ → step.Step × List ℕ
-stepAt line ordinal base s (Found start end) out =
-    (stepFor end (putting (lineAt line ordinal base s (start, end)) out .0), putting (lineAt line ordinal base s (start, end)) out .1)
-stepAt line ordinal base s Nothing out = (step.the-variants.Nothing, out)
+abbrev pub nextAt : ℕ → ℕ → ℕ → List ℕ → Span → List ℕ → next.NextLine × List ℕ
+nextAt line ordinal base s (Found start end) out =
+    (nextFor end (putting (lineAt line ordinal base s (start, end)) out .0), putting (lineAt line ordinal base s (start, end)) out .1)
+nextAt line ordinal base s Nothing out = (next.the-variants.Nothing, out)
 
-unfoldable pub stepOf : ℕ → ℕ → ℕ → List ℕ → ℕ → List ℕ → step.Step × List ℕ
-stepOf line ordinal base s place out = stepAt line ordinal base s (spanOf s place) out
+unfoldable pub nextLineOf : ℕ → ℕ → ℕ → List ℕ → ℕ → List ℕ → next.NextLine × List ℕ
+nextLineOf line ordinal base s place out = nextAt line ordinal base s (spanOf s place) out
 
 -- how far a listing got
 abbrev pub stopped : ℕ → ℕ → ℕ → Bool → Listed

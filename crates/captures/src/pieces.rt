@@ -1,7 +1,7 @@
 // The lines of a lent slice, and what is kept of it for the next piece of a capture (01 'Bench cases', 'Cutting the stream').
 ghost use mathlib.Core.Path.{_≡_};
 ghost use lib.ListN.{length};
-ghost use Rattle.captures.specs.Pieces.{stepOf, listPart, keptFrom, tailOf, tailPut, lineNamed, badLine};
+ghost use Rattle.captures.specs.Pieces.{nextLineOf, listPart, keptFrom, tailOf, tailPut, lineNamed, badLine};
 use characters::marks::UNFINISHED;
 use characters::slices::less;
 use characters::slices::part;
@@ -32,15 +32,22 @@ pub fn bad_line() -> [u8; 8]
 }
 
 // What the next telegram's line is: of so many bytes, for a telegram that ends at a place; or it has no room, or none is left.
-pub enum Step {
+pub enum NextLine {
     Line { end: usize, len: usize },
     Full,
     Nothing,
 }
 
 // The line of the next telegram, from the front of an output.
-pub fn put_next(line: u8, ordinal: u64, base: u64, s: &[u8], from: usize, out: &mut [u8]) -> Step
-    ensures { λ r. ⌜ (r, now (out .exit)) ≡ stepOf line ordinal base (now (s .entry)) from (now (out .entry)) ⌝ }
+pub fn put_next(
+    line: u8,
+    ordinal: u64,
+    base: u64,
+    s: &[u8],
+    from: usize,
+    out: &mut [u8],
+) -> NextLine
+    ensures { λ r. ⌜ (r, now (out .exit)) ≡ nextLineOf line ordinal base (now (s .entry)) from (now (out .entry)) ⌝ }
 {
     let span = span_of(s, from);
     match span {
@@ -48,11 +55,11 @@ pub fn put_next(line: u8, ordinal: u64, base: u64, s: &[u8], from: usize, out: &
             let offset = std::num::wrapping_add_u64(base, start as u64);
             let put = put_line(ordinal, offset, read(line, part_of(s, span)), out);
             match put {
-                Writing::Written(len) => Step::Line { end, len },
-                Writing::Refused(_) => Step::Full,
+                Writing::Written(len) => NextLine::Line { end, len },
+                Writing::Refused(_) => NextLine::Full,
             }
         }
-        Span::Nothing => Step::Nothing,
+        Span::Nothing => NextLine::Nothing,
     }
 }
 
@@ -73,12 +80,12 @@ pub fn list_part(line: u8, ordinal: u64, base: u64, s: &[u8], from: usize, out: 
     let mut filled: usize = 0;
     loop {
         match put_next(line, count, base, s, next, &mut out[filled..]) {
-            Step::Line { end, len } => {
+            NextLine::Line { end, len } => {
                 next = end;
                 count = std::num::wrapping_add_u64(count, 1);
                 filled = filled + len;
             }
-            Step::Full => {
+            NextLine::Full => {
                 return Listed {
                     next,
                     ordinal: count,
@@ -86,7 +93,7 @@ pub fn list_part(line: u8, ordinal: u64, base: u64, s: &[u8], from: usize, out: 
                     done: false,
                 };
             }
-            Step::Nothing => {
+            NextLine::Nothing => {
                 return Listed {
                     next,
                     ordinal: count,

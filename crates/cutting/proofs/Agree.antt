@@ -8,7 +8,7 @@ use lib.ListN.{length, take, drop, getD, length-append, length-drop, drop-of-len
 use lib.Seq.{take-length, take-suc, getD-drop, drop-cons}
 use Rattle.laws.proofs.Passes.{order}
 use Rattle.turns.specs.declared.turns.Turn.{Turn}
-use Rattle.cutting.specs.declared.gather.Heard.the-variants.{Byte}
+use Rattle.cutting.specs.declared.gather.Item.the-variants.{Byte}
 use Rattle.turns.specs.Turns.{turnOf}
 use Rattle.cutting.specs.Gather.{atStart}
 use Rattle.cutting.specs.Search.{cutFrom, spanOf}

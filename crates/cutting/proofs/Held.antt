@@ -8,8 +8,8 @@ use lib.ListN.{length, take, set}
 use lib.Seq.{length-take-le, take-take, take-suc-set}
 use Rattle.turns.specs.declared.turns.Turn.{Turn}
 use Rattle.turns.specs.declared.turns.Turn.the-variants.{Joins, Ends, Drops}
-use Rattle.cutting.specs.declared.gather.Heard.{Heard}
-use Rattle.cutting.specs.declared.gather.Heard.the-variants.{Byte, Hit}
+use Rattle.cutting.specs.declared.gather.Item.{Item}
+use Rattle.cutting.specs.declared.gather.Item.the-variants.{Byte, Hit}
 use Rattle.cutting.specs.declared.gather.Gatherer.{Gatherer}
 use Rattle.turns.specs.Turns.{turnOf}
 use Rattle.cutting.specs.Gather.{holding, shut, turned}
@@ -32,7 +32,7 @@ turning (Ends at) h byte later = with at h byte ∷ later []
 turning Drops h byte later = later []
 
 -- the telegrams that items hand out where bytes are held
-unfoldable pub gathered : List ℕ → List Heard → List (List ℕ)
+unfoldable pub gathered : List ℕ → List Item → List (List ℕ)
 gathered h [] = []
 gathered h (Byte byte ∷ items) = turning (turnOf (length h) byte) h byte (λ h′. gathered h′ items)
 gathered h (Hit ∷ items) = gathered [] items
@@ -46,7 +46,7 @@ put-front g at byte r h =
     rw (add-one at, take-take at (g .len) (g .bytes) h) (take-suc-set (g .bytes) at byte (omega (arith, r .few, r .room)))
 
 -- so only the bytes held decide what is handed out
-pub by-held : (items : List Heard) (g : Gatherer) → InRange g → handed g items ≡ gathered (held g) items
+pub by-held : (items : List Item) (g : Gatherer) → InRange g → handed g items ≡ gathered (held g) items
 unfolding handed gathered
 by-held [] g r = refl
 by-held (Hit ∷ items) g r = rw (hears g Hit r) (by-held items (shut g) record { few = omega arith; room = r .room })

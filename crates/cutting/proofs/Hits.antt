@@ -8,8 +8,8 @@ use lib.Seq.{take-length}
 use Rattle.characters.specs.Marks.{lf, cr, longest, unfinished}
 use Rattle.turns.specs.declared.turns.Turn.{Turn}
 use Rattle.turns.specs.declared.turns.Turn.the-variants.{Joins, Ends, Drops}
-use Rattle.cutting.specs.declared.gather.Heard.{Heard}
-use Rattle.cutting.specs.declared.gather.Heard.the-variants.{Byte, Hit}
+use Rattle.cutting.specs.declared.gather.Item.{Item}
+use Rattle.cutting.specs.declared.gather.Item.the-variants.{Byte, Hit}
 use Rattle.turns.specs.Turns.{turnOf}
 use Rattle.cutting.specs.Gather.{atStart}
 use Rattle.turns.proofs.Cases.{Case, begins, skips, ends, drops, joins, turn-case}
@@ -51,7 +51,7 @@ plain-joins len byte h k p = go (turnOf len byte) (turn-case len byte)
     go t (joins l c z m) = refl
 
 -- behind bytes that are held, others that are neither LF nor CR join them, and CR ends the telegram
-held-out : (xs h : List ℕ) (items : List Heard) → 0 < length h → length h + length xs ≤ unfinished → AllPlain xs
+held-out : (xs h : List ℕ) (items : List Item) → 0 < length h → length h + length xs ≤ unfinished → AllPlain xs
     → gathered h (map Byte (xs ++ (cr ∷ [])) ++ items) ≡ (h ++ (xs ++ (cr ∷ []))) ∷ gathered [] items
 unfolding gathered
 held-out [] h items z m p = rw (cr-ends (length h) z, take-length h)
@@ -61,7 +61,7 @@ held-out (x ∷ xs) h items z m p =
     ∙ ap (λ (t : List ℕ). t ∷ gathered [] items) (append-assoc h (x ∷ []) (xs ++ (cr ∷ []))))
 
 -- LF begins anew, whatever is held
-anew : (h xs : List ℕ) (items : List Heard) → length (whole xs) ≤ longest → AllPlain xs → gathered h (map Byte (whole xs) ++ items) ≡ whole xs ∷ gathered [] items
+anew : (h xs : List ℕ) (items : List Item) → length (whole xs) ≤ longest → AllPlain xs → gathered h (map Byte (whole xs) ++ items) ≡ whole xs ∷ gathered [] items
 unfolding gathered
 anew h xs items m p = rw (lf-joins (length h)) (held-out xs (lf ∷ []) items (omega arith) (omega (arith, length-append xs (cr ∷ []))) p)
 
@@ -74,7 +74,7 @@ telegram-out g xs items r m p =
 pub hit-step : HitStep
 hit-step g r = hears g Hit r
 
-hit-held : (xs ys : List Heard) (h : List ℕ) → gathered h (xs ++ (Hit ∷ ys)) ≡ gathered h xs ++ gathered [] ys
+hit-held : (xs ys : List Item) (h : List ℕ) → gathered h (xs ++ (Hit ∷ ys)) ≡ gathered h xs ++ gathered [] ys
 unfolding gathered
 hit-held [] ys h = refl
 hit-held (Hit ∷ xs) ys h = hit-held xs ys []

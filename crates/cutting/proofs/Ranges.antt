@@ -10,8 +10,8 @@ use Rattle.characters.specs.Marks.{longest}
 use Rattle.records.specs.Refusals.{No}
 use Rattle.turns.specs.declared.turns.Turn.{Turn}
 use Rattle.turns.specs.declared.turns.Turn.the-variants.{Joins, Ends, Drops}
-use Rattle.cutting.specs.declared.gather.Heard.{Heard}
-use Rattle.cutting.specs.declared.gather.Heard.the-variants.{Byte, Hit}
+use Rattle.cutting.specs.declared.gather.Item.{Item}
+use Rattle.cutting.specs.declared.gather.Item.the-variants.{Byte, Hit}
 use Rattle.cutting.specs.declared.gather.Gatherer.{Gatherer}
 use Rattle.turns.specs.Turns.{turnOf}
 use Rattle.cutting.specs.Gather.{nothing, telegram, refused, atStart, turned, onItem, gatherOf}
@@ -19,7 +19,7 @@ use Rattle.turns.proofs.Cases.{joins-at, ends-at}
 use Rattle.cutting.specs.Streams.{InRange, afterItems, TelegramNumber, AlwaysInRange, NeverRefused}
 
 -- in its ranges a state hears the item
-pub hears : (g : Gatherer) (item : Heard) → InRange g → gatherOf g item ≡ onItem g item
+pub hears : (g : Gatherer) (item : Item) → InRange g → gatherOf g item ≡ onItem g item
 unfolding gatherOf
 hears g item r = rw (lt-leb longest (g .len) (r .few))
 
@@ -30,12 +30,12 @@ turn-range g byte (Ends at) r e = record { few = omega arith; room = length-set 
 turn-range g byte Drops r e = record { few = omega arith; room = r .room }
 
 -- so does an item
-pub step-range : (g : Gatherer) (item : Heard) → InRange g → InRange (gatherOf g item .0)
+pub step-range : (g : Gatherer) (item : Item) → InRange g → InRange (gatherOf g item .0)
 step-range g (Byte byte) r = rw (hears g (Byte byte) r) (turn-range g byte (turnOf (g .len) byte) r refl)
 step-range g Hit r = rw (hears g Hit r) record { few = omega arith; room = r .room }
 
 -- in its ranges a state refuses nothing
-pub not-refused : (g : Gatherer) (item : Heard) (x : No) → InRange g → ¬ (gatherOf g item .1 ≡ refused x)
+pub not-refused : (g : Gatherer) (item : Item) (x : No) → InRange g → ¬ (gatherOf g item .1 ≡ refused x)
 not-refused g (Byte byte) x r e = turn (turnOf (g .len) byte) (rw (hears g (Byte byte) r) at e)
   where
     turn : (t : Turn) → ¬ (turned g byte t .1 ≡ refused x)
@@ -53,11 +53,11 @@ telegram-number g item n r e = length-take-le n (gatherOf g item .0 .bytes) (ome
     turn byte (Ends at) e q = let x : at + 1 ≡ n = cc in omega (arith, ends-at (g .len) byte at e, r .few)
     turn byte Drops e q = let z : _≡_ {A = ℕ} 0 1 = cc in let y : ⊥ = omega arith in absurd y
 
-    few : (item : Heard) → onItem g item .1 ≡ telegram n → n ≤ longest
+    few : (item : Item) → onItem g item .1 ≡ telegram n → n ≤ longest
     few (Byte byte) q = turn byte (turnOf (g .len) byte) refl q
     few Hit q = let z : _≡_ {A = ℕ} 0 1 = cc in let y : ⊥ = omega arith in absurd y
 
-after-range : (g : Gatherer) (items : List Heard) → InRange g → InRange (afterItems g items)
+after-range : (g : Gatherer) (items : List Item) → InRange g → InRange (afterItems g items)
 unfolding afterItems
 after-range g [] r = r
 after-range g (item ∷ items) r = after-range (gatherOf g item .0) items (step-range g item r)

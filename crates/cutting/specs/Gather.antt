@@ -8,8 +8,8 @@ use Rattle.characters.specs.Marks.{longest}
 use Rattle.records.specs.Refusals.{No, no, refusalOf}
 use Rattle.turns.specs.declared.turns.Turn.{Turn}
 use Rattle.turns.specs.declared.turns.Turn.the-variants.{Joins, Ends, Drops}
-use Rattle.cutting.specs.declared.gather.Heard.{Heard}
-use Rattle.cutting.specs.declared.gather.Heard.the-variants.{Byte, Hit}
+use Rattle.cutting.specs.declared.gather.Item.{Item}
+use Rattle.cutting.specs.declared.gather.Item.the-variants.{Byte, Hit}
 use Rattle.cutting.specs.declared.gather.Gatherer.{Gatherer}
 use Rattle.turns.specs.Turns.{turnOf}
 use Rattle.cutting.specs.declared.gather.Gathered as g
@@ -44,12 +44,12 @@ turned g byte (Ends at) = (holding g at byte 0, telegram (at + 1))
 turned g byte Drops = (shut g, nothing)
 
 -- a heard item is a byte or a hit; a hit drops what was begun
-abbrev pub onItem : Gatherer → Heard → Gatherer × Cut
+abbrev pub onItem : Gatherer → Item → Gatherer × Cut
 onItem g (Byte byte) = turned g byte (turnOf (g .len) byte)
 onItem g Hit = (shut g, nothing)
 
 -- 15 where the state is out of its ranges, which stays as it was
-unfoldable pub gatherOf : Gatherer → Heard → Gatherer × Cut
+unfoldable pub gatherOf : Gatherer → Item → Gatherer × Cut
 gatherOf g item = cond (leb longest (g .len)) (g, refused (no 15 0)) (onItem g item)
 
 -- a promise through these definitions allows one answer only

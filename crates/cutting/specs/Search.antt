@@ -40,8 +40,8 @@ offsetOf (Found start end) other = start
 offsetOf Nothing other = other
 
 -- the offset of a span and its bytes; none: an empty part at the end
-abbrev pub placed : List ℕ → Span → ℕ × List ℕ
-placed s span = (offsetOf span (length s), partOf s span)
+abbrev pub offsetPart : List ℕ → Span → ℕ × List ℕ
+offsetPart s span = (offsetOf span (length s), partOf s span)
 
 -- what cutting and reading finds: nothing, a telegram from start to end with what it reads as, or a refusal's number and place
 pub data Next : Type 0 where

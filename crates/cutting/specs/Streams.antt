@@ -5,8 +5,8 @@ use Prim.Native.Nat.{ℕ, zero, suc, _≤_, _<_}
 use lib.ListN.{length, take}
 use Rattle.characters.specs.Marks.{longest}
 use Rattle.records.specs.Refusals.{No}
-use Rattle.cutting.specs.declared.gather.Heard.{Heard}
-use Rattle.cutting.specs.declared.gather.Heard.the-variants.{Byte, Hit}
+use Rattle.cutting.specs.declared.gather.Item.{Item}
+use Rattle.cutting.specs.declared.gather.Item.the-variants.{Byte, Hit}
 use Rattle.cutting.specs.declared.gather.Gatherer.{Gatherer}
 use Rattle.cutting.specs.declared.search.Span.{Span}
 use Rattle.cutting.specs.declared.search.Span.the-variants.{Found, Nothing}
@@ -20,7 +20,7 @@ pub record InRange (g : Gatherer) : Type 0 where
   pub room : length (g .bytes) ≡ longest
 
 -- the state that items leave
-unfoldable pub afterItems : Gatherer → List Heard → Gatherer
+unfoldable pub afterItems : Gatherer → List Item → Gatherer
 afterItems g [] = g
 afterItems g (item ∷ items) = afterItems (gatherOf g item .0) items
 
@@ -31,7 +31,7 @@ handing (g, telegram n) later = take n (g .bytes) ∷ later
 handing (g, refused why) later = later
 
 -- the telegrams that items hand out, in order
-unfoldable pub handed : Gatherer → List Heard → List (List ℕ)
+unfoldable pub handed : Gatherer → List Item → List (List ℕ)
 handed g [] = []
 handed g (item ∷ items) = handing (gatherOf g item) (handed (gatherOf g item .0) items)
 
@@ -51,15 +51,15 @@ searched (suc n) s from = finding s (spanOf s from) (searched n s)
 
 -- From the start, under any items, the gatherer is in its ranges,
 abbrev pub AlwaysInRange : Type 0
-AlwaysInRange = (items : List Heard) → InRange (afterItems atStart items)
+AlwaysInRange = (items : List Item) → InRange (afterItems atStart items)
 
 -- so its own calls are never refused, by 15 or at all.
 abbrev pub NeverRefused : Type 0
-NeverRefused = (items : List Heard) (item : Heard) (why : No) → ¬ (gatherOf (afterItems atStart items) item .1 ≡ refused why)
+NeverRefused = (items : List Item) (item : Item) (why : No) → ¬ (gatherOf (afterItems atStart items) item .1 ≡ refused why)
 
 -- The number that a step answers is the number of its telegram's bytes.
 abbrev pub TelegramNumber : Type 0
-TelegramNumber = (g : Gatherer) (item : Heard) (n : ℕ) → InRange g → gatherOf g item .1 ≡ telegram n → length (take n (gatherOf g item .0 .bytes)) ≡ n
+TelegramNumber = (g : Gatherer) (item : Item) (n : ℕ) → InRange g → gatherOf g item .1 ≡ telegram n → length (take n (gatherOf g item .0 .bytes)) ≡ n
 
 -- Feeding a slice's bytes to the step from the start hands out the same telegrams, byte for byte and in the same order, as repeated
 -- searching, each search from the end of the last; as many searches as there are bytes are enough.
@@ -69,7 +69,7 @@ SameTelegrams = (s : List ℕ) (n : ℕ) → length s ≤ n → fed atStart s �
 -- From every state in its ranges, LF, then bytes that are neither LF nor CR, then CR, at most 66 in all, hand out just those bytes;
 -- what is heard behind them is heard as from the start.
 abbrev pub TelegramOut : Type 0
-TelegramOut = (g : Gatherer) (xs : List ℕ) (items : List Heard) → InRange g → length (whole xs) ≤ longest → AllPlain xs
+TelegramOut = (g : Gatherer) (xs : List ℕ) (items : List Item) → InRange g → length (whole xs) ≤ longest → AllPlain xs
     → handed g (map Byte (whole xs) ++ items) ≡ whole xs ∷ handed atStart items
 
 -- A hit leaves no telegram begun and hands out nothing; the bytes stay.
@@ -78,9 +78,9 @@ HitStep = (g : Gatherer) → InRange g → gatherOf g Hit ≡ (shut g, nothing)
 
 -- A hit drops what was begun and nothing else: what was handed out before it stays, and what comes behind it is heard as from the start.
 abbrev pub HitDrops : Type 0
-HitDrops = (g : Gatherer) (before later : List Heard) → InRange g → handed g (before ++ (Hit ∷ later)) ≡ handed g before ++ handed atStart later
+HitDrops = (g : Gatherer) (before later : List Item) → InRange g → handed g (before ++ (Hit ∷ later)) ≡ handed g before ++ handed atStart later
 
 -- After it the next LF begins a telegram.
 abbrev pub AfterHit : Type 0
-AfterHit = (g : Gatherer) (before : List Heard) (xs : List ℕ) (items : List Heard) → InRange g → length (whole xs) ≤ longest → AllPlain xs
+AfterHit = (g : Gatherer) (before : List Item) (xs : List ℕ) (items : List Item) → InRange g → length (whole xs) ≤ longest → AllPlain xs
     → handed g (before ++ (Hit ∷ (map Byte (whole xs) ++ items))) ≡ handed g before ++ (whole xs ∷ handed atStart items)

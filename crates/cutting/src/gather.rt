@@ -10,7 +10,7 @@ use turns::turns::Turn;
 use turns::turns::turn_of;
 
 // A heard item is a byte or a hit.
-pub enum Heard {
+pub enum Item {
     Byte(u8),
     Hit,
 }
@@ -86,7 +86,7 @@ impl Gatherer {
     }
 
     // One item: 15 where the state is out of its ranges; a hit drops what was begun.
-    pub fn gather(self, item: Heard) -> Step
+    pub fn gather(self, item: Item) -> Step
         ensures { λ r. ⌜ (r .gatherer, gatheredOf (r .answer)) ≡ gatherOf self item ⌝ }
     {
         if LONGEST <= self.len {
@@ -96,8 +96,8 @@ impl Gatherer {
             };
         }
         match item {
-            Heard::Byte(byte) => self.gather_byte(byte),
-            Heard::Hit => {
+            Item::Byte(byte) => self.gather_byte(byte),
+            Item::Hit => {
                 let dropped = self.close();
                 Step {
                     gatherer: dropped,

@@ -1,6 +1,6 @@
 // The search for the next telegram over a lent slice (01 'Cutting the stream').
 ghost use mathlib.Core.Path.{_≡_};
-ghost use Rattle.cutting.specs.Search.{spanOf, partOf, offsetOf, placed, cuttingOf, nextOf};
+ghost use Rattle.cutting.specs.Search.{spanOf, partOf, offsetOf, offsetPart, cuttingOf, nextOf};
 use characters::slices::less;
 use characters::slices::part;
 use forms::lines::is_line;
@@ -75,7 +75,7 @@ fn offset_of(span: Span, other: usize) -> usize
 
 // The next telegram as a part of the caller's own bytes, with its offset in at; an empty part at the end where none is left.
 pub fn next_part<'a>(s: &'a [u8], from: usize, at: &mut usize) -> &'a [u8]
-    ensures { λ r. ⌜ (now (at .exit), now r) ≡ placed (now (s .entry)) (spanOf (now (s .entry)) from) ⌝ }
+    ensures { λ r. ⌜ (now (at .exit), now r) ≡ offsetPart (now (s .entry)) (spanOf (now (s .entry)) from) ⌝ }
 {
     let span = span_of(s, from);
     *at = offset_of(span, s.len());

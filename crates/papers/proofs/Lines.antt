@@ -8,7 +8,7 @@ use Rattle.laws.proofs.Passes.{on-test, same-test, every-all, all-map, oneOf-pa
 use Rattle.forms.specs.Forms.{forms, onLine, lookIn, formOf, byMaster, bySlave, dataType, typeRow}
 use Rattle.forms.specs.declared.table.Form.{Form}
 use Rattle.forms.proofs.Found.{found-type, found-line}
-use Rattle.papers.specs.Lines.{Line, listedBy, paper, Agrees, Exact, SameLines, NoTwoRows, ExactLines, NoOtherLine}
+use Rattle.papers.specs.Lines.{Senders, listedBy, paper, Agrees, Exact, SameLines, NoTwoRows, ExactLines, NoOtherLine}
 
 pub same-lines : SameLines
 unfolding forms onLine lookIn formOf typeRow dataType
@@ -18,7 +18,7 @@ pub no-two-rows : NoTwoRows
 unfolding forms onLine
 no-two-rows = refl
 
-module _ (l : Line) (a : Agrees l) (b : ℕ) where
+module _ (l : Senders) (a : Agrees l) (b : ℕ) where
   -- the row of a type on the line is sent by the end that lists the type
   listed : (sender : Bool) → typeRow (l .line) b .found ≡ true → typeRow (l .line) b .form .master ≡ sender → oneOf (cond sender (l .masters) (l .slaves)) b ≡ true
   listed sender h m =
@@ -40,7 +40,7 @@ module _ (l : Line) (a : Agrees l) (b : ℕ) where
       (oneOf-passes (bySlave (l .line)) (l .slaves) b (a .slaves-sent))
 
 -- a line on which they agree is exact
-exact : (l : Line) → Agrees l → Exact l
+exact : (l : Senders) → Agrees l → Exact l
 exact l a = record { by-master = masters-exact l a; by-slave = slaves-exact l a }
 
 pub exact-lines : ExactLines

@@ -13,16 +13,16 @@ use Rattle.forms.specs.Forms.{forms, onLine, formOf, byMaster, bySlave, dataTyp
 use Rattle.forms.specs.declared.table.Form.{Form}
 
 -- a line: what the master sends and what the slave sends
-pub record Line : Type 0 where
+pub record Senders : Type 0 where
   pub line : ℕ
   pub masters : List ℕ
   pub slaves : List ℕ
 
-abbrev pub joins : ℕ → String → String → Line
+abbrev pub joins : ℕ → String → String → Senders
 joins line masters slaves = record { line = line; masters = codes masters; slaves = codes slaves }
 
 -- the paper's table; the slave's data type comes first
-abbrev pub paper : List Line
+abbrev pub paper : List Senders
 paper =
     joins 1 "cFGrt" "BAN" ∷
     joins 2 "1Frt" "5AN" ∷
@@ -34,11 +34,11 @@ abbrev pub implies : Bool → Bool → Bool
 implies a b = cond a b true
 
 -- a form on a line is sent by the end that lists its type
-abbrev pub listedBy : Line → Form → Bool
+abbrev pub listedBy : Senders → Form → Bool
 listedBy l f = implies (onLine f (l .line)) (oneOf (cond (f .master) (l .masters) (l .slaves)) (f .kind))
 
 -- the table of forms and the paper's line agree
-pub record Agrees (l : Line) : Type 0 where
+pub record Agrees (l : Senders) : Type 0 where
   -- the master sends each type that the paper lists for it
   pub masters-sent : every (byMaster (l .line)) (l .masters) ≡ true
   -- and the slave each that it lists for the slave
@@ -61,10 +61,10 @@ apart line (f ∷ fs) = both (every (differ line f) fs) (apart line fs)
 
 -- so no type has two rows on a line
 abbrev pub NoTwoRows : Type 0
-NoTwoRows = every (λ (l : Line). apart (l .line) forms) paper ≡ true
+NoTwoRows = every (λ (l : Senders). apart (l .line) forms) paper ≡ true
 
 -- of every byte: an end sends it as a type just where the paper lists it for that end
-pub record Exact (l : Line) : Type 0 where
+pub record Exact (l : Senders) : Type 0 where
   pub by-master : (b : ℕ) → byMaster (l .line) b ≡ oneOf (l .masters) b
   pub by-slave : (b : ℕ) → bySlave (l .line) b ≡ oneOf (l .slaves) b
 

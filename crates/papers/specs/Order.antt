@@ -82,7 +82,7 @@ abbrev pub checkAt : ℕ → List ℕ → ℕ → Spot
 checkAt line s k = getD (checks line s) (k - 1) Nowhere
 
 -- check k, of the eleven, finds a fault at a place, and no check before it finds one
-pub record First (line : ℕ) (s : List ℕ) (k place : ℕ) : Type 0 where
+pub record FirstCheck (line : ℕ) (s : List ℕ) (k place : ℕ) : Type 0 where
   pub from-one : 1 ≤ k
   pub to-eleven : k ≤ 11
   pub finds : checkAt line s k ≡ At place
@@ -90,7 +90,7 @@ pub record First (line : ℕ) (s : List ℕ) (k place : ℕ) : Type 0 where
 
 -- a refusal on a line is the first check that finds a fault, with its place
 abbrev pub RefusedFirst : Type 0
-RefusedFirst = (line : ℕ) (s : List ℕ) (k place : ℕ) → isLine line ≡ true → readingOf line s ≡ refused (no k place) → First line s k place
+RefusedFirst = (line : ℕ) (s : List ℕ) (k place : ℕ) → isLine line ≡ true → readingOf line s ≡ refused (no k place) → FirstCheck line s k place
 
 -- what is accepted passes every check
 abbrev pub AcceptedClean : Type 0
