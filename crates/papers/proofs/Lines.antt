@@ -8,7 +8,10 @@ use Rattle.laws.proofs.Passes.{on-test, same-test, every-all, all-map, oneOf-pa
 use Rattle.forms.specs.Forms.{forms, onLine, lookIn, formOf, byMaster, bySlave, dataType, typeRow}
 use Rattle.forms.specs.declared.table.Form.{Form}
 use Rattle.forms.proofs.Found.{found-type, found-line}
-use Rattle.papers.specs.Lines.{Senders, listedBy, paper, Agrees, Exact, SameLines, NoTwoRows, ExactLines, NoOtherLine}
+use Rattle.papers.specs.Lines.{Senders, listedBy, paper, SameNumbers, Agrees, Exact, SameLines, NoTwoRows, ExactLines, NoOtherLine}
+
+pub same-numbers : SameNumbers
+same-numbers = refl
 
 pub same-lines : SameLines
 unfolding forms onLine lookIn formOf typeRow dataType

@@ -1,14 +1,14 @@
 -- The table of forms has the lines and senders of 01 'The three lines and both ends'. Assumes nothing.
 use mathlib.Core.Path.{_≡_}
 use mathlib.Core.Bool.{Bool, true, false, cond, not}
-use mathlib.Core.List.{List, [], _∷_}
+use mathlib.Core.List.{List, [], _∷_, map}
 use Prim.Native.Nat.{ℕ}
 use Prim.Native.String.{String}
 use lib.Dec.{eqb}
 use lib.ListN.{getD}
 use Rattle.laws.specs.Truth.{both, oneOf, every, All}
 use Rattle.laws.specs.Text.{codes}
-use Rattle.forms.specs.Lines.{isLine}
+use Rattle.forms.specs.Lines.{lineNumbers, isLine}
 use Rattle.forms.specs.Forms.{forms, onLine, formOf, byMaster, bySlave, dataType}
 use Rattle.forms.specs.declared.table.Form.{Form}
 
@@ -28,6 +28,10 @@ paper =
     joins 2 "1Frt" "5AN" ∷
     joins 3 "Oonrt" "KAN" ∷
     []
+
+-- there are the lines of the paper, with its numbers
+abbrev pub SameNumbers : Type 0
+SameNumbers = map (λ (l : Senders). l .line) paper ≡ lineNumbers
 
 -- if the first test holds, so does the second
 abbrev pub implies : Bool → Bool → Bool
