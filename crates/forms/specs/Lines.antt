@@ -1,5 +1,5 @@
 -- The table of lines (01 'The three lines and both ends', 'Link rules'). Assumes nothing.
-use Prim.Native.Nat.{ℕ, zero, suc, _+_, _-_}
+use Prim.Native.Nat.{ℕ, zero, suc, _-_}
 use Prim.Native.Char.{Char, code}
 use mathlib.Core.List.{List, [], _∷_}
 use mathlib.Core.Bool.{Bool, true, false, cond}

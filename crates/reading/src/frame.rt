@@ -1,13 +1,17 @@
 // A telegram's frame: checks 1 to 7 (01 'Numbered answers'), and what stands around the data field.
 ghost use mathlib.Core.Path.{_≡_};
 ghost use mathlib.Core.List.{[], _∷_};
-ghost use Prim.Native.Nat.{ℕ, _+_, _-_, _/_, _%_, _≤_};
+ghost use Prim.Native.Nat.{_+_, _-_, _/_, _%_, _≤_};
 ghost use lib.ListN.{length, drop};
 ghost use Rattle.reading.specs.Answers.{faultOf, firstFault};
 ghost use Rattle.reading.specs.Frame.{isTwo, frameChecks};
 use crate::answers::Check;
 use characters::checksum::checksum;
 use characters::checksum::hex;
+use characters::marks::CR;
+use characters::marks::LF;
+use characters::marks::LONGEST;
+use characters::marks::SHORTEST;
 use characters::slices::byte_at;
 use characters::slices::less;
 use characters::slices::part;
@@ -29,14 +33,14 @@ fn is_two(s: &[u8], at: usize, high: u8, low: u8) -> bool
 pub fn count_high(n: usize) -> u8
     ensures { λ r. ⌜ r ≡ 48 + (n - 2) / 10 % 10 ⌝ }
 {
-    (48 + less(n, 2) / 10 % 10) as u8
+    b'0' + (less(n, 2) / 10 % 10) as u8
 }
 
 // and the low one.
 pub fn count_low(n: usize) -> u8
     ensures { λ r. ⌜ r ≡ 48 + (n - 2) % 10 ⌝ }
 {
-    (48 + less(n, 2) % 10) as u8
+    b'0' + (less(n, 2) % 10) as u8
 }
 
 // Checks 5 to 7.
@@ -45,7 +49,7 @@ fn end_check(s: &[u8]) -> Check
     ensures { λ r. ⌜ faultOf r ≡ firstFault 5 (drop 4 (frameChecks (now (s .entry)))) ⌝ }
 {
     let n = s.len();
-    if byte_at(s, n - 1) != 13 {
+    if byte_at(s, n - 1) != CR {
         return Check::Fails(Refusal::NoEnd(n - 1));
     }
     let sum = checksum(part(s, 1, n - 4));
@@ -65,13 +69,13 @@ pub fn frame_check(s: &[u8]) -> Check
     ensures { λ r. ⌜ faultOf r ≡ firstFault 1 (frameChecks (now (s .entry))) ⌝ }
 {
     let n = s.len();
-    if n < 10 {
+    if n < SHORTEST {
         return Check::Fails(Refusal::Short);
     }
-    if 66 < n {
+    if LONGEST < n {
         return Check::Fails(Refusal::Long);
     }
-    if byte_at(s, 0) != 10 {
+    if byte_at(s, 0) != LF {
         return Check::Fails(Refusal::NoStart);
     }
     if !is_two(s, 1, count_high(n), count_low(n)) {

@@ -1,19 +1,15 @@
 -- Both round trips of reading and writing, and what follows from them (01 'The telegram', 'Numbered answers'). Assumes nothing.
 use mathlib.Core.Path.{_≡_, refl, sym, _∙_}
 use mathlib.Core.Bool.{true}
-use mathlib.Core.List.{List, _++_}
-use Prim.Native.Nat.{ℕ, _+_, _≤_, _<_}
+use Prim.Native.Nat.{ℕ, _+_}
 use native.Mathlib.Omega.{arith}
-use lib.ListN.{length, drop}
+use lib.ListN.{length}
 use borrow.Author.Tests.{lt-ltb, le-leb}
-use Rattle.forms.specs.Lines.{isLine}
 use Rattle.forms.specs.Forms.{widthOf}
 use Rattle.records.specs.Records.{typeOf, letterOf}
 use Rattle.values.specs.Values.{rowOf, permitsRecord, lengthOf}
 use Rattle.values.proofs.Recorded.{length-row}
 use Rattle.records.specs.declared.records.Record.{Record}
-use Rattle.reading.specs.Answers.{accepted, written}
-use Rattle.reading.specs.Reading.{readingOf}
 use Rattle.writing.specs.Writing.{telegramOf, writingOf, sentOf, sendOf}
 use Rattle.roundtrips.specs.Trips.{WrittenReads, ReadPermitted, OneRecord, OneText, OneTelegram, TelegramLength, LengthBounds, Output, SentWhole}
 use Rattle.roundtrips.proofs.Rows.{row}

@@ -17,7 +17,7 @@ pub(crate) fn low_digit(decimal: bool, n: u32) -> u8
     ensures { λ r. ⌜ r ≡ nought decimal + n % base decimal ⌝ }
 {
     if decimal {
-        (48 + n % 10) as u8
+        b'0' + (n % 10) as u8
     } else {
         (n % 256) as u8
     }

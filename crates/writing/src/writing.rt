@@ -1,16 +1,17 @@
 // Writing a record's telegram (01 'Numbered answers'): 15, 12, 13, 14, then each packet into its own stretch of the output.
 ghost use mathlib.Core.Path.{_≡_};
-ghost use mathlib.Core.List.{[], _∷_, _++_};
+ghost use mathlib.Core.List.{_++_};
 ghost use Prim.Native.Nat.{_+_, _-_, _≤_, _<_};
 ghost use lib.ListN.{length, drop};
-ghost use Rattle.characters.specs.Checksum.{checkText};
 ghost use Rattle.forms.specs.Forms.{slotsOf, widthOf};
 ghost use Rattle.reading.specs.Answers.{outcomeOf};
-ghost use Rattle.reading.specs.Frame.{countText, frameOf, headText, tailText};
+ghost use Rattle.reading.specs.Frame.{frameOf, headText, tailText};
 ghost use Rattle.reading.specs.Field.{dataOf};
 ghost use Rattle.writing.specs.Writing.{writingOf};
 use characters::checksum::checksum;
 use characters::checksum::hex;
+use characters::marks::CR;
+use characters::marks::LF;
 use characters::slices::wide;
 use forms::lines::is_line;
 use forms::table::Form;
@@ -33,7 +34,7 @@ fn put_head(part: &mut [u8], n: usize, kind: u8, number: u8)
     requires { ⌜ (length (now part) ≡ 5) × (number < 2) ⌝ }
     ensures { λ _. ⌜ now (part .exit) ≡ headText n kind number ⌝ }
 {
-    part[0] = 10;
+    part[0] = LF;
     part[1] = count_high(n);
     part[2] = count_low(n);
     part[3] = kind;
@@ -47,7 +48,7 @@ fn put_tail(part: &mut [u8], sum: u8)
 {
     part[0] = hex(sum / 16);
     part[1] = hex(sum);
-    part[2] = 13;
+    part[2] = CR;
 }
 
 // The packets of a form with these values, each in its own stretch.

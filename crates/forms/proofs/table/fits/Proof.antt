@@ -1,5 +1,4 @@
 -- `forms::table::fits` meets its contract. Assumes nothing.
-use mathlib.Core.Path.{_∙_}
 use borrow.Author.Needs.{needs}
 use Rattle.forms.proofs.table.fits.Statement.{statement}
 use Rattle.forms.proofs.table.fits.Tie as tie

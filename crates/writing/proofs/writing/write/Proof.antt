@@ -102,7 +102,8 @@ returns-6 c =
     let k = w .width-of .ensures .0 in
     ap (λ (p : Outcome × List ℕ). p)
     (rw (k, c .before .before .put-telegram .ensures)
-    (in-full (a .line) (a .rec) (a .number) (now (a .out)) _ (f .form-of .result) lined (t .ensures) row found (same ∙ not-false _ (w .before .before .if3 .left)) (w .before .if4 .left) (omega arith) _ (p .before .values-of .ensures)))
+    (in-full (a .line) (a .rec) (a .number) (now (a .out)) _ (f .form-of .result) lined (t .ensures) row
+    found (same ∙ not-false _ (w .before .before .if3 .left)) (w .before .if4 .left) (omega arith) _ (p .before .values-of .ensures)))
 
 pub write-spec : {M : Type 1} → statement M
 write-spec =
