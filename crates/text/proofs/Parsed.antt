@@ -43,7 +43,9 @@ agree (d ∷ s) m a b h =
 pub digit-on : (s : List ℕ) (i n b m : ℕ) → i < length s → b ≡ getD s i 0 → m ≡ (n * 10 + (b - 48) % 10) % 2 ^ 64
     → numberOn true m (drop (i + 1) s) % 2 ^ 64 ≡ numberOn true n (drop i s) % 2 ^ 64
 unfolding numberOn
-digit-on s i n b m l e f = rw (add-one i, drop-cons s i 0 l, ← e) (agree (drop (suc i) s) (2 ^ 64) m (n * 10 + (b - 48) % 10) (ap (λ (k : ℕ). k % 2 ^ 64) f ∙ mod-mod (n * 10 + (b - 48) % 10) (2 ^ 64)))
+digit-on s i n b m l e f =
+    rw (add-one i, drop-cons s i 0 l, ← e)
+    (agree (drop (suc i) s) (2 ^ 64) m (n * 10 + (b - 48) % 10) (ap (λ (k : ℕ). k % 2 ^ 64) f ∙ mod-mod (n * 10 + (b - 48) % 10) (2 ^ 64)))
 
 -- no digit is left
 pub all-read : (s : List ℕ) (i n : ℕ) → length s ≤ i → n < 2 ^ 64 → n ≡ numberOn true n (drop i s) % 2 ^ 64

@@ -8,13 +8,8 @@ use lib.Dec.{eqb}
 use lib.ListN.{getD}
 use Rattle.laws.specs.Text.{codes}
 use Rattle.laws.specs.Truth.{All, oneOf}
+use Rattle.characters.specs.Marks.{lf, cr}
 use Rattle.text.specs.Hex.{hexSays}
-
-abbrev lf : ℕ
-lf = 0x0A
-
-abbrev cr : ℕ
-cr = 0x0D
 
 -- < is LF, > is CR, any other character itself
 unfoldable pub endMeant : ℕ → ℕ

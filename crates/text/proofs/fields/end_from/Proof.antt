@@ -22,7 +22,10 @@ shared-slice-read-if1 : tie.Need-shared-slice-read-if1 Inv-loop μ-loop
 shared-slice-read-if1 c = search needs
 
 returns : tie.Need-returns Inv-loop μ-loop
-returns c = let l = c .before .before .before .loop in omega (arith, stops (c .before .before .before .before .args .s .now) (c .before .before .before .before .args .separator) (l .i) (omega arith) (c .if1 .taken))
+returns c =
+    let a = c .before .before .before .before .args in
+    let l = c .before .before .before .loop in
+    omega (arith, stops (a .s .now) (a .separator) (l .i) (omega arith) (c .if1 .taken))
 
 add-i : tie.Need-add-i Inv-loop μ-loop
 add-i c = search needs
@@ -31,7 +34,10 @@ loop-less : tie.Need-loop-less Inv-loop μ-loop
 loop-less c = search needs
 
 loop-again : tie.Need-loop-again Inv-loop μ-loop
-loop-again c = let l = c .before .before .before .loop in omega (arith, goes-on (c .before .before .before .before .args .s .now) (c .before .before .before .before .args .separator) (l .i) (omega arith) (c .if1 .left))
+loop-again c =
+    let a = c .before .before .before .before .args in
+    let l = c .before .before .before .loop in
+    omega (arith, goes-on (a .s .now) (a .separator) (l .i) (omega arith) (c .if1 .left))
 
 returns-2 : tie.Need-returns-2 Inv-loop μ-loop
 returns-2 c = let l = c .before .loop in omega (arith, ends (c .before .before .args .s .now) (c .before .before .args .separator) (l .i) (omega arith))

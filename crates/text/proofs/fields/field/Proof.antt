@@ -21,9 +21,10 @@ part-requires c κs = search needs
 
 returns : tie.Need-returns
 returns c =
-    let s = c .before .before .before .start-of in
     let a = c .before .before .before .before .before .args in
-    c .part .ensures ∙ ap (λ (k : ℕ). take k (drop (s .result) (a .s .now))) (c .before .less .ensures) ∙ between (a .s .now) (a .separator) (a .number) (s .result) _ (s .ensures) (c .before .before .end-from .ensures)
+    let s = c .before .before .before .start-of in
+    c .part .ensures ∙ ap (λ (k : ℕ). take k (drop (s .result) (a .s .now))) (c .before .less .ensures)
+    ∙ between (a .s .now) (a .separator) (a .number) (s .result) _ (s .ensures) (c .before .before .end-from .ensures)
 
 pub field-spec : {M : Type 1} → statement M
 field-spec =

@@ -28,7 +28,9 @@ byte-at-requires-2 : tie.Need-byte-at-requires-2 Inv-loop μ-loop
 byte-at-requires-2 c κs = search needs
 
 returns-2 : tie.Need-returns-2 Inv-loop μ-loop
-returns-2 c = let l = c .before .before .before .before .loop in differs _ _ (l .i) _ _ (omega arith) (l .inv .2) (c .before .before .byte-at .ensures) (c .before .byte-at2 .ensures) (c .if2 .taken) ∙ l .inv .3
+returns-2 c =
+    let l = c .before .before .before .before .loop in
+    differs _ _ (l .i) _ _ (omega arith) (l .inv .2) (c .before .before .byte-at .ensures) (c .before .byte-at2 .ensures) (c .if2 .taken) ∙ l .inv .3
 
 add-i : tie.Need-add-i Inv-loop μ-loop
 add-i c = search needs

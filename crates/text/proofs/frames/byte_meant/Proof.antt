@@ -25,9 +25,13 @@ hex-value-requires c κs = search needs
 
 returns : tie.Need-returns
 returns c =
-    let p = c .before .before .before .before .before .part .ensures in
+    let part = c .before .before .before .before .before .part in
+    let byte-at = c .before .before .before .before .byte-at in
+    let if1 = c .before .before .before .if1 in
+    let p = part .ensures in
     let at : (i : ℕ) → _ = λ i. ap (λ (t : List ℕ). getD t i 0) p in
-    escaped _ _ _ _ _ (c .before .before .before .before .byte-at .ensures ∙ at 0) (c .before .before .byte-at2 .ensures ∙ at 1) (c .before .byte-at3 .ensures ∙ at 2) (c .before .before .before .if1 .taken) (c .hex-value .ensures)
+    escaped _ _ _ _ _ (byte-at .ensures ∙ at 0) (c .before .before .byte-at2 .ensures ∙ at 1) (c .before .byte-at3 .ensures ∙ at 2) (if1 .taken)
+    (c .hex-value .ensures)
 
 end-meant-requires : tie.Need-end-meant-requires
 end-meant-requires c κs = search needs

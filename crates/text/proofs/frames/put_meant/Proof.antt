@@ -36,8 +36,13 @@ loop-less c = omega (arith, c .next .ensures .0)
 loop-again : tie.Need-loop-again Inv-loop μ-loop
 loop-again c =
     let p = c .before .before .before in
-    let l = p .before .before .before .before .loop in
-    (p .put-byte .kept .0 ∙ l .inv .0, byte-on _ _ _ _ _ _ _ (meant-here _ (l .i) (c .next .result) _ (p .before .before .before .loop-test .taken) (c .next .ensures .1) (p .before .byte-meant .ensures)) (p .put-byte .ensures) ∙ l .inv .1)
+    let l = p .before .before .before .before .loop in (
+      p .put-byte .kept .0 ∙ l .inv .0,
+      byte-on _ _ _ _ _ _ _
+          (meant-here _ (l .i) (c .next .result) _ (p .before .before .before .loop-test .taken) (c .next .ensures .1) (p .before .byte-meant .ensures))
+          (p .put-byte .ensures)
+          ∙ l .inv .1,
+    )
 
 same-length : tie.Need-same-length Inv-loop μ-loop
 same-length c = c .before .loop .inv .0

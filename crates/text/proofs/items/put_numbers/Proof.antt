@@ -44,7 +44,8 @@ loop-again c =
       omega arith,
       l .inv .1,
       p .put-value .kept .0 ∙ l .inv .2,
-      onward (valueText (getD v (l .j) 0)) (valuesText (drop (l .j + 1) v)) _ _ _ _ (p .put-value .ensures) ∙ ap (λ (t : List ℕ). puts t (l .place) (l .out)) (sym (value-here v (l .j) _ (omega arith) refl)) ∙ l .inv .3,
+      onward (valueText (getD v (l .j) 0)) (valuesText (drop (l .j + 1) v)) _ _ _ _ (p .put-value .ensures)
+          ∙ ap (λ (t : List ℕ). puts t (l .place) (l .out)) (sym (value-here v (l .j) _ (omega arith) refl)) ∙ l .inv .3,
     )
 
 same-length : tie.Need-same-length Inv-loop μ-loop

@@ -33,7 +33,13 @@ loop-less c = search needs
 loop-again : tie.Need-loop-again Inv-loop μ-loop
 loop-again c =
     let l = c .before .before .before .before .before .before .loop in
-    (omega arith, l .inv .1, c .before .before .put-byte .kept .0 ∙ l .inv .2, byte-on _ _ _ _ _ _ _ (from-here _ (l .i) _ (omega arith) (c .before .before .before .byte-at .ensures)) (c .before .before .put-byte .ensures) ∙ l .inv .3)
+    let byte-at = c .before .before .before .byte-at in
+    let put-byte = c .before .before .put-byte in (
+      omega arith,
+      l .inv .1,
+      put-byte .kept .0 ∙ l .inv .2,
+      byte-on _ _ _ _ _ _ _ (from-here _ (l .i) _ (omega arith) (byte-at .ensures)) (put-byte .ensures) ∙ l .inv .3,
+    )
 
 same-length : tie.Need-same-length Inv-loop μ-loop
 same-length c = c .before .loop .inv .2
