@@ -1,3 +1,2 @@
 pub mod Clock
 pub mod Counters
-pub mod Room

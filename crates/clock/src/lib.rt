@@ -1,4 +1,3 @@
-// What both ends of a link share (01 'Link rules'): the clock, the two counters, and the room that a sending needs.
+// What both ends of a link share (01 'Link rules'): the clock and the two counters.
 pub mod clock;
 pub mod counters;
-pub mod room;

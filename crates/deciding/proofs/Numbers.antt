@@ -12,7 +12,7 @@ use Rattle.laws.specs.Truth.{from}
 use Rattle.laws.specs.Text.{codes}
 use Rattle.laws.proofs.Truths.{clash}
 use Rattle.laws.proofs.Passes.{on-test, oneOf-passes, from-bounds}
-use Rattle.forms.specs.Forms.{isLine}
+use Rattle.forms.specs.Lines.{isLine}
 use Rattle.records.specs.declared.records.Record.{Record}
 use Rattle.reading.specs.Answers.{Answer, accepted, refused, Fault, good, fails, firstFault, unless}
 use Rattle.reading.specs.Frame.{frameChecks}

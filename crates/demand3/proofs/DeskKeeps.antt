@@ -9,7 +9,8 @@ use lib.ListN.{length, take, drop, replicate}
 use lib.Seq.{take-append-seam}
 use borrow.Author.Tests.{ltb-true}
 use Rattle.laws.proofs.Truths.{clash, both-left}
-use Rattle.forms.specs.Forms.{isLine, bySlave}
+use Rattle.forms.specs.Lines.{isLine}
+use Rattle.forms.specs.Forms.{bySlave}
 use Rattle.records.specs.Records.{typeOf}
 use Rattle.records.specs.declared.records.Record.{Record}
 use Rattle.records.specs.declared.records.Record.the-variants.{Rejected}
@@ -17,7 +18,7 @@ use Rattle.values.specs.Values.{permitsRecord}
 use Rattle.reading.specs.Answers.{Fault, good, fails}
 use Rattle.writing.specs.Writing.{telegramOf, sentOf}
 use Rattle.roundtrips.proofs.Trips.{written-reads}
-use Rattle.clock.specs.Room.{longest}
+use Rattle.characters.specs.Marks.{longest}
 use Rattle.deciding.specs.Deciding.{What, Ruling, silent, fault, repeat, handle, answersWith}
 use Rattle.deciding.proofs.Numbers.{ruling-number}
 use Rattle.replying.proofs.Permitted.{fault-permitted}
@@ -32,6 +33,7 @@ use Rattle.desk.specs.declared.state.Desk.{Desk}
 use Rattle.desk.proofs.Permitted.{answer-permitted}
 use Rattle.conduct.proofs.Desk.Stored.{reply-sent}
 use Rattle.conduct.proofs.Desk.Kept as k
+use Rattle.conduct.specs.Desk.Calls as c
 use Rattle.demand3.specs.Ends.{Said}
 use Rattle.demand3.specs.Ours.{lostIn, saidOf, isLost, Panel, queues, sets, turns, panelOf, FromSlave}
 use Rattle.demand3.specs.Rules.{Reading, DView, First, DHears, frame, view}
@@ -45,7 +47,7 @@ dview d = view (d .good) (isOne (d .last .0)) (storedOf d)
 
 -- in its ranges, on the line of its start
 pub record Fine (line : ℕ) (d : Desk) : Type 0 where
-  pub fine : k.Fine d
+  pub fine : c.Fine d
   pub lined : d .line ≡ line
 
 keeps-fine : {line : ℕ} {d e : Desk} → Fine line d → k.Keeps d e → Fine line e

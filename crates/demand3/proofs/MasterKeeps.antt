@@ -8,7 +8,8 @@ use lib.ListN.{take}
 use lib.Seq.{take-append-seam}
 use borrow.Author.Tests.{ne-eqb}
 use Rattle.laws.proofs.Truths.{both-left}
-use Rattle.forms.specs.Forms.{isLine, byMaster}
+use Rattle.forms.specs.Lines.{isLine}
+use Rattle.forms.specs.Forms.{byMaster}
 use Rattle.records.specs.Records.{typeOf}
 use Rattle.records.specs.declared.records.Record.{Record}
 use Rattle.values.specs.Values.{permitsRecord}
@@ -24,7 +25,8 @@ use Rattle.master.specs.declared.state.Master.{Master}
 use Rattle.master.specs.declared.answers.Sending.{Sending}
 use Rattle.master.specs.declared.answers.Sending.the-variants.{Offered, Again, Poll}
 use Rattle.master.proofs.Ranges.{numbered, sendable-permits}
-use Rattle.conduct.proofs.Master.Calls.{Call, offers, ticks, hears, outputOf, after, rejects, brings, Quiet, barred, idle, unheard, First, offered, polled, Ends, permitted, strange, Does, stays, begins, repeats, ends, givesUp, does}
+use Rattle.conduct.specs.Master.Calls.{Call, offers, ticks, hears, outputOf, after, First, offered, polled}
+use Rattle.conduct.proofs.Master.Calls.{rejects, brings, Quiet, barred, idle, unheard, Ends, permitted, strange, Does, stays, begins, repeats, ends, givesUp, does}
 use Rattle.conduct.proofs.Master.Kept.{keeps, start-ranged}
 use Rattle.demand3.specs.Ends.{Did, nothing, got}
 use Rattle.demand3.specs.Ours.{didOf, behindOf, FromMaster}

@@ -7,7 +7,7 @@ use Prim.Native.Char.{code}
 use native.Mathlib.Omega.{arith}
 use lib.ListN.{length, getD}
 use Rattle.laws.proofs.Truths.{clash}
-use Rattle.forms.specs.Forms.{isLine}
+use Rattle.forms.specs.Lines.{isLine}
 use Rattle.reading.specs.Answers.{refused, Fault, good, fails, firstFault}
 use Rattle.reading.specs.Frame.{frameChecks}
 use Rattle.reading.specs.Field.{fieldChecks}

@@ -3,7 +3,7 @@ use mathlib.Core.Path.{_≡_}
 use mathlib.Core.Bool.{true}
 use mathlib.Core.List.{List, []}
 use Prim.Native.Nat.{ℕ}
-use Rattle.forms.specs.Forms.{isLine}
+use Rattle.forms.specs.Lines.{isLine}
 use Rattle.demand3.specs.Demand.{NoLostInside, Promise, Reported, Spoken}
 use Rattle.demand3.specs.Ends.{Ev, ran}
 use Rattle.demand3.specs.Ours.{ours, FromMaster, FromSlave}

@@ -11,7 +11,7 @@ use Rattle.records.specs.declared.records.Record.{Record}
 use Rattle.values.specs.Values.{permitsRecord}
 use Rattle.reading.specs.Answers.{good, fails}
 use Rattle.desk.specs.Answers.{done, lost, refused}
-use Rattle.replying.specs.Fitting.{isKey}
+use Rattle.forms.specs.Lines.{lineOf, isKey}
 use Rattle.desk.specs.State.{inRanges}
 use Rattle.desk.specs.Panel.{losesLine, notedOf, withQueued, withRequested, withKey, recordFault, keyFault, tickOf, queueOf, setOf, keyOf}
 use Rattle.desk.specs.declared.state.Desk.{Desk}
@@ -77,17 +77,17 @@ module _ (d : Desk) (key : ℕ) where
   unfolding keyFault
   key-state h = rw h
 
-  pub key-line : inRanges d ≡ true → (d .line ≡ 3 → ⊥) → fails (no 12 0) ≡ keyFault d key
+  pub key-line : inRanges d ≡ true → lineOf (d .line) .keyed ≡ false → fails (no 12 0) ≡ keyFault d key
   unfolding keyFault
-  key-line h k = rw (h, ne-eqb (d .line) 3 k)
+  key-line h k = rw (h, k)
 
-  pub key-value : inRanges d ≡ true → d .line ≡ 3 → isKey key ≡ false → fails (no 13 0) ≡ keyFault d key
+  pub key-value : inRanges d ≡ true → lineOf (d .line) .keyed ≡ true → isKey key ≡ false → fails (no 13 0) ≡ keyFault d key
   unfolding keyFault
-  key-value h k p = rw (h, eq-eqb (d .line) 3 k, p)
+  key-value h k p = rw (h, k, p)
 
-  pub key-good : inRanges d ≡ true → d .line ≡ 3 → isKey key ≡ true → good ≡ keyFault d key
+  pub key-good : inRanges d ≡ true → lineOf (d .line) .keyed ≡ true → isKey key ≡ true → good ≡ keyFault d key
   unfolding keyFault
-  key-good h k p = rw (h, eq-eqb (d .line) 3 k, p)
+  key-good h k p = rw (h, k, p)
 
   pub key-refused : (x : No) → fails x ≡ keyFault d key → (d, refused x) ≡ keyOf d key
   unfolding keyOf

@@ -14,7 +14,7 @@ use Rattle.records.specs.declared.records.Record.the-variants.{Rejected}
 use Rattle.values.specs.Values.{permitsRecord}
 use Rattle.writing.specs.Writing.{telegramOf, sentOf, sendOf}
 use Rattle.roundtrips.proofs.Trips.{telegram-length, length-bounds, sent-whole}
-use Rattle.clock.specs.Room.{longest}
+use Rattle.characters.specs.Marks.{longest}
 use Rattle.deciding.specs.Deciding.{What, Ruling}
 use Rattle.replying.specs.Replying.{Origin, Reply}
 use Rattle.desk.specs.State.{inRanges, storedOf}

@@ -7,7 +7,7 @@ use lib.Dec.{leb}
 use lib.ListN.{length, drop, replicate}
 use Rattle.records.specs.declared.records.Record.the-variants.{Rejected}
 use Rattle.writing.specs.Writing.{telegramOf, sentOf}
-use Rattle.clock.specs.Room.{longest}
+use Rattle.characters.specs.Marks.{longest}
 use Rattle.records.specs.Refusals.{no}
 use Rattle.deciding.specs.Deciding.{Ruling, rulingIn}
 use Rattle.deciding.specs.Deciding as r

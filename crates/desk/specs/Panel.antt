@@ -12,7 +12,7 @@ use Rattle.values.specs.Values.{permitsRecord}
 use Rattle.clock.specs.Clock.{runOut}
 use Rattle.reading.specs.Answers.{Fault, good, fails}
 use Rattle.records.specs.Refusals.{no}
-use Rattle.replying.specs.Fitting.{isKey}
+use Rattle.forms.specs.Lines.{lineOf, isKey}
 use Rattle.replying.specs.declared.replying.Wanted.the-variants.{Is}
 use Rattle.desk.specs.Answers.{Done, done, lost, refused}
 use Rattle.desk.specs.State.{inRanges}
@@ -78,11 +78,11 @@ queueOf d rec = faultless (recordFault d rec) d (cond (ltb (d .queued) 8) (withQ
 unfoldable pub setOf : Desk → Record → Desk × Done
 setOf d rec = faultless (recordFault d rec) d (withRequested d rec, done)
 
--- 15, then 12 on lines 1 and 2, then 13 for another position
+-- 15, then 12 where A carries no key position (lines 1 and 2), then 13 for another position
 unfoldable pub keyFault : Desk → ℕ → Fault
 keyFault d key =
     cond (inRanges d)
-    (cond (eqb (d .line) 3)
+    (cond (lineOf (d .line) .keyed)
     (cond (isKey key) good
     (fails (no 13 0)))
     (fails (no 12 0)))

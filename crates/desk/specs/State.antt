@@ -6,10 +6,10 @@ use mathlib.Core.Bool.{Bool, false, cond, not}
 use lib.Dec.{leb, eqb}
 use lib.ListN.{take, replicate}
 use Rattle.laws.specs.Truth.{both, from, every}
-use Rattle.forms.specs.Forms.{isLine}
+use Rattle.forms.specs.Lines.{isLine}
 use Rattle.records.specs.declared.records.Record.the-variants.{Approved}
 use Rattle.clock.specs.Counters.{inRange}
-use Rattle.clock.specs.Room.{shortest, longest}
+use Rattle.characters.specs.Marks.{shortest, longest}
 use Rattle.records.specs.Refusals.{no}
 use Rattle.replying.specs.Fitting.{mayReply, keyFits, wantedFits}
 use Rattle.replying.specs.declared.replying.Wanted.the-variants.{None}

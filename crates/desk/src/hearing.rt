@@ -5,7 +5,7 @@ ghost use Rattle.desk.specs.Hearing.{hearOf};
 use crate::answers::Heard;
 use crate::applying::Hearing;
 use crate::state::Desk;
-use clock::room::LONGEST;
+use characters::marks::LONGEST;
 use deciding::deciding::decide;
 use records::refusals::Refusal;
 

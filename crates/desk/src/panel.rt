@@ -10,12 +10,13 @@ use crate::state::Step;
 use crate::state::Waiting;
 use crate::state::Wanted;
 use clock::clock::run_out;
+use forms::lines::is_key;
+use forms::lines::line_of;
 use forms::table::data_type;
 use reading::answers::Check;
 use records::records::Record;
 use records::records::type_of;
 use records::refusals::Refusal;
-use replying::fitting::is_key;
 use values::values::permits_record;
 
 // T1's limit, in milliseconds.
@@ -155,14 +156,15 @@ impl Desk {
         }
     }
 
-    // Checks 15, 12 and 13 on a key position: 12 on lines 1 and 2 whatever the value.
+    // Checks 15, 12 and 13 on a key position: 12 on a line without one, whatever the value.
     fn key_check(self, key: u8) -> Check
         ensures { λ r. ⌜ faultOf r ≡ keyFault self key ⌝ }
     {
         if !self.in_ranges() {
             return Check::Fails(Refusal::State);
         }
-        if self.line != 3 {
+        let row = line_of(self.line);
+        if !row.keyed {
             return Check::Fails(Refusal::NotSent);
         }
         if !is_key(key) {
@@ -180,7 +182,7 @@ impl Desk {
         d
     }
 
-    // The panel's key position: A, X or Y on line 3.
+    // The panel's key position: A, X or Y on a line that has one.
     pub fn turn_key(self, key: u8) -> Step
         ensures { λ r. ⌜ (r .desk, outcomeOf (r .answer)) ≡ keyOf self key ⌝ }
     {

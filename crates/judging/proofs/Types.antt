@@ -1,4 +1,4 @@
--- What the master's rules say of an answer's type and value. Assumes nothing.
+-- What the master's rules say of its poll, and of an answer's type and value. Assumes nothing.
 use mathlib.Core.Path.{_≡_, sym, _∙_}
 use mathlib.Core.Bool.{true, false}
 use mathlib.Core.List.{List, [], _∷_}
@@ -8,10 +8,13 @@ use lib.Dec.{eqb}
 use lib.ListN.{getD}
 use borrow.Author.Tests.{eq-eqb, ne-eqb}
 use Rattle.laws.specs.Truth.{oneOf}
+use Rattle.forms.specs.Lines.{lineOf}
 use Rattle.forms.specs.Forms.{dataType}
+use Rattle.forms.specs.declared.lines.Line.{Line}
 use Rattle.records.specs.Records.{typeOf, valuesOf}
 use Rattle.records.specs.declared.records.Record.{Record}
-use Rattle.judging.specs.Rules.{isFailure, answersTo, permittedAnswer}
+use Rattle.records.specs.declared.records.Record.the-variants.{Request, Idling}
+use Rattle.judging.specs.Rules.{pollOf, isFailure, answersTo, permittedAnswer}
 
 module _ (rec : Record) (kind : ℕ) (e : kind ≡ typeOf rec) where
   pub not-rejected : ¬ (kind ≡ code "N") → false ≡ isFailure rec
@@ -39,3 +42,13 @@ module _ (line sent got data′ : ℕ) (e : data′ ≡ dataType line) where
     pub other-sent : ¬ (sent ≡ code "t") → oneOf (code "A" ∷ code "N" ∷ []) got ≡ permittedAnswer line sent got
     unfolding permittedAnswer answersTo
     other-sent h = rw (ne-eqb sent (code "r") n, ne-eqb sent (code "t") h)
+
+-- the poll, by the row of the line
+module _ (line : ℕ) (row : Line) (e : row ≡ lineOf line) where
+  pub polls-with-r : row .poll ≡ code "r" → (data′ : ℕ) → data′ ≡ dataType line → Request data′ ≡ pollOf line
+  unfolding pollOf
+  polls-with-r h data′ d = rw (d, ← e, eq-eqb (row .poll) (code "r") h)
+
+  pub polls-with-t : ¬ (row .poll ≡ code "r") → Idling (code "t") ≡ pollOf line
+  unfolding pollOf
+  polls-with-t h = rw (← e, ne-eqb (row .poll) (code "r") h)

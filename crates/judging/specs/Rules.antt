@@ -7,14 +7,15 @@ use lib.Dec.{eqb}
 use lib.ListN.{getD}
 use Rattle.laws.specs.Truth.{both, oneOf}
 use Rattle.laws.specs.Text.{codes}
+use Rattle.forms.specs.Lines.{lineOf}
 use Rattle.forms.specs.Forms.{dataType}
 use Rattle.records.specs.Records.{typeOf, valuesOf}
 use Rattle.records.specs.declared.records.Record.{Record}
 use Rattle.records.specs.declared.records.Record.the-variants.{Request, Idling}
 
--- the poll: t, on line 1 r for B
+-- the poll: t, on line 1 r for B, the slave's data type
 unfoldable pub pollOf : ℕ → Record
-pollOf line = cond (eqb line 1) (Request (code "B")) (Idling (code "t"))
+pollOf line = cond (eqb (lineOf line .poll) (code "r")) (Request (dataType line)) (Idling (code "t"))
 
 -- N with 1 or 2 is a failed sending
 unfoldable pub isFailure : Record → Bool

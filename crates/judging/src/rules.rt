@@ -3,17 +3,19 @@ ghost use mathlib.Core.Path.{_≡_};
 ghost use mathlib.Core.List.{[], _∷_};
 ghost use Rattle.laws.specs.Truth.{oneOf};
 ghost use Rattle.judging.specs.Rules.{pollOf, isFailure, permittedAnswer};
+use forms::lines::line_of;
 use forms::table::data_type;
 use records::records::Record;
 use records::records::type_of;
 use records::records::values_of;
 
-// The poll: t, on line 1 r for B.
+// The poll of a line: t, or r for the slave's data type.
 pub fn poll_of(line: u8) -> Record
     ensures { λ r. ⌜ r ≡ pollOf line ⌝ }
 {
-    if line == 1 {
-        Record::Request(b'B' as u32)
+    let row = line_of(line);
+    if row.poll == b'r' {
+        Record::Request(data_type(line) as u32)
     } else {
         Record::Idling(b't' as u32)
     }

@@ -7,18 +7,19 @@ use lib.Dec.{ltb}
 use borrow.Author.Tests.{lt-ltb, le-ltb, eq-eqb, ne-eqb, ltb-true, ltb-false}
 use Rattle.laws.specs.Truth.{both, either}
 use Rattle.laws.proofs.Truths.{both-left, both-right, both-true}
-use Rattle.laws.proofs.Passes.{from-passes}
 use Rattle.laws.specs.Numerals.{numeralOn, leftOf}
-use Rattle.forms.specs.Forms.{isLine, byMaster, forms, onLine, lookIn, formOf, dataIn, dataType, slotsIn, countOf, slotsOf}
+use Rattle.forms.specs.Lines.{isLine, lineOf}
+use Rattle.forms.specs.Forms.{byMaster, forms, onLine, lookIn, typeRow, formOf, dataType, slotsIn, countOf, slotsOf}
 use Rattle.records.specs.Refusals.{No, no}
 use Rattle.records.specs.Records.{typeOf}
 use Rattle.characters.specs.Characters.{inSet}
 use Rattle.records.specs.declared.records.Record.{Record}
-use Rattle.packets.specs.Packets.{packetOf, leadOf, isDecimal, permits}
-use Rattle.values.specs.Values.{permitsRecord, textOf, bodyOf, permittedFrom, permitted, permitsValue, permitsValues}
+use Rattle.forms.proofs.Found.{each-line}
+use Rattle.packets.specs.Packets.{leadOf, isDecimal, permits, ruled, permitsNumber}
+use Rattle.values.specs.Values.{permitsRecord, textOf, narrow, bodyOf, permittedFrom, numberFits, permitsValue, permitsValues}
 use Rattle.reading.specs.Answers.{good, fails}
 use Rattle.clock.specs.Counters.{inRange}
-use Rattle.clock.specs.Room.{longest}
+use Rattle.characters.specs.Marks.{longest}
 use Rattle.judging.specs.Rules.{pollOf}
 use Rattle.master.specs.declared.state.Master.{Master}
 use Rattle.master.specs.Answers.{refused, nothing}
@@ -96,8 +97,9 @@ sendable-both line rec h k = both-true (byMaster line (typeOf rec)) (permitsReco
 -- the master may send the poll on each line
 pub poll-sendable : (line : ℕ) → isLine line ≡ true → sendable line (pollOf line) ≡ true
 poll-sendable line h =
-    from-passes (λ (l : ℕ). sendable l (pollOf l)) 1 3 line
-    (unfold sendable pollOf permitsRecord textOf bodyOf permittedFrom permitted permitsValue permitsValues forms onLine lookIn formOf dataIn dataType slotsIn countOf slotsOf packetOf leadOf isDecimal permits inSet numeralOn leftOf in refl) h
+    each-line (λ (l : ℕ). sendable l (pollOf l))
+    (unfold sendable pollOf forms onLine lookIn typeRow formOf slotsIn countOf slotsOf dataType lineOf leadOf isDecimal permits ruled permitsNumber textOf bodyOf permittedFrom numberFits permitsValue permitsValues permitsRecord narrow numeralOn leftOf inSet in refl)
+    line h
 
 -- noting the line changes no range
 pub line-noted : (m n : Master) (g : Bool) → n ≡ withLine m g → inRanges m ≡ true → inRanges n ≡ true

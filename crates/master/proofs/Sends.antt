@@ -15,7 +15,7 @@ use Rattle.reading.specs.Answers.{good, fails}
 use Rattle.writing.specs.Writing.{sendOf}
 use Rattle.roundtrips.proofs.Trips.{sent-whole}
 use Rattle.clock.specs.Clock.{runOut}
-use Rattle.clock.specs.Room.{longest}
+use Rattle.characters.specs.Marks.{longest}
 use Rattle.judging.specs.Rules.{pollOf}
 use Rattle.master.specs.declared.state.Master.{Master}
 use Rattle.master.specs.declared.state.Step.{Step}

@@ -4,6 +4,7 @@ use mathlib.Core.Bool.{Bool, false, cond}
 use mathlib.Core.List.{List}
 use lib.Dec.{eqb}
 use lib.ListN.{length}
+use Rattle.forms.specs.Lines.{lineOf}
 use Rattle.forms.specs.Forms.{byMaster}
 use Rattle.records.specs.Refusals.{no}
 use Rattle.records.specs.Records.{typeOf}
@@ -30,9 +31,9 @@ abbrev pub unlessRefused : Fault → Master → List ℕ → Behind → Behind
 unlessRefused good m out behind = behind
 unlessRefused (fails x) m out behind = (m, (refused x, out))
 
--- T0 is 20,000
+-- T0 is that of the line: 20,000
 unfoldable pub t0Limit : Master → ℕ
-t0Limit m = 20000
+t0Limit m = lineOf (m .line) .t0
 
 -- T2 is 2,000
 abbrev pub t2Limit : ℕ

@@ -4,7 +4,7 @@ ghost use mathlib.Core.Bool.{true, false};
 ghost use Prim.Native.Nat.{_≤_};
 ghost use lib.ListN.{length};
 ghost use Rattle.reading.specs.Answers.{answerOf};
-ghost use Rattle.clock.specs.Room.{longest};
+ghost use Rattle.characters.specs.Marks.{longest};
 ghost use Rattle.judging.specs.Judging.{judgedOf};
 ghost use Rattle.master.specs.Answers.{toldOf};
 ghost use Rattle.master.specs.State.{isFree, inRanges};

@@ -5,7 +5,7 @@ ghost use Prim.Native.Nat.{_≤_, _<_};
 ghost use lib.ListN.{length};
 ghost use Rattle.values.specs.Values.{permitsRecord};
 ghost use Rattle.reading.specs.Answers.{faultOf};
-ghost use Rattle.clock.specs.Room.{longest};
+ghost use Rattle.characters.specs.Marks.{longest};
 ghost use Rattle.master.specs.Answers.{toldOf};
 ghost use Rattle.master.specs.State.{isFree, inRanges, withLine, givenUpState};
 ghost use Rattle.master.specs.Sending.{t0Limit, sendingOf, failedOf, offerFault, offerOf, pollingOf, waitingOf, tickOf};
@@ -16,6 +16,7 @@ use crate::state::Master;
 use crate::state::Step;
 use clock::clock::run_out;
 use clock::counters::ToSend;
+use forms::lines::line_of;
 use forms::table::by_master;
 use judging::rules::poll_of;
 use reading::answers::Check;
@@ -25,17 +26,16 @@ use records::refusals::Refusal;
 use values::values::permits_record;
 use writing::sending::send;
 
-// The limits in milliseconds.
-const T0: u32 = 20_000;
-
+// T2's limit, in milliseconds.
 pub(crate) const T2: u32 = 2_000;
 
 impl Master {
-    // T0 is 20,000.
+    // T0's limit, that of the line.
     fn t0_limit(self) -> u32
         ensures { λ r. ⌜ r ≡ t0Limit self ⌝ }
     {
-        T0
+        let row = line_of(self.line);
+        row.t0
     }
 
     // Sends a record's telegram with the number to send; every sending restarts T0 and T2.

@@ -1,23 +1,25 @@
 -- Each record that the desk answers with is permitted on its line. Assumes nothing.
 use mathlib.Core.Path.{_≡_, refl}
-use mathlib.Core.Bool.{Bool, true}
+use mathlib.Core.Bool.{Bool, true, cond}
 use mathlib.Core.List.{[], _∷_}
 use Prim.Native.Nat.{ℕ}
 use Prim.Native.Char.{code}
 use lib.Dec.{eqb}
-use borrow.Author.Tests.{eqb-true, eqb-false}
-use Rattle.laws.specs.Truth.{oneOf, every}
+use borrow.Author.Tests.{eqb-false}
+use Rattle.laws.specs.Truth.{every}
 use Rattle.laws.specs.Text.{codes}
 use Rattle.laws.proofs.Truths.{both-left, both-right}
-use Rattle.laws.proofs.Passes.{on-test, oneOf-passes, from-passes}
+use Rattle.laws.proofs.Passes.{on-test, oneOf-passes}
 use Rattle.laws.specs.Numerals.{numeralOn, leftOf}
 use Rattle.characters.specs.Characters.{inSet}
-use Rattle.forms.specs.Forms.{isLine, forms, onLine, lookIn, formOf, slotsIn, countOf, slotsOf, dataType, dataIn}
+use Rattle.forms.specs.Lines.{isLine, lineOf}
+use Rattle.forms.specs.Forms.{forms, onLine, lookIn, typeRow, formOf, slotsIn, countOf, slotsOf, dataType}
 use Rattle.records.specs.Records.{typeOf}
 use Rattle.records.specs.declared.records.Record.{Record}
 use Rattle.records.specs.declared.records.Record.the-variants.{Approved, Rejected}
-use Rattle.packets.specs.Packets.{packetOf, leadOf, isDecimal, permits}
-use Rattle.values.specs.Values.{textOf, bodyOf, permittedFrom, permitted, permitsValue, permitsValues, permitsRecord}
+use Rattle.forms.proofs.Found.{each-line}
+use Rattle.packets.specs.Packets.{leadOf, isDecimal, permits, ruled, permitsNumber}
+use Rattle.values.specs.Values.{textOf, narrow, bodyOf, permittedFrom, numberFits, permitsValue, permitsValues, permitsRecord}
 use Rattle.deciding.specs.Deciding.{What, contents, notMaster, request, poll, other}
 use Rattle.replying.specs.Fitting.{mayReply, keyFits, wantedFits}
 use Rattle.replying.specs.Replying.{askedOf, keyOn, polledOf, replyOf}
@@ -29,8 +31,8 @@ abbrev plainOn : ℕ → Bool
 plainOn line = every (permitsRecord line) (Rejected (code "1") ∷ Rejected (code "A") ∷ Approved (code "A") ∷ [])
 
 plain-on : (line : ℕ) → isLine line ≡ true → plainOn line ≡ true
-unfolding forms onLine lookIn formOf slotsIn countOf slotsOf packetOf leadOf isDecimal permits textOf bodyOf permittedFrom permitted permitsValue permitsValues permitsRecord numeralOn leftOf inSet dataType dataIn
-plain-on line h = from-passes plainOn 1 3 line refl h
+unfolding forms onLine lookIn typeRow formOf slotsIn countOf slotsOf dataType lineOf leadOf isDecimal permits ruled permitsNumber textOf bodyOf permittedFrom numberFits permitsValue permitsValues permitsRecord narrow numeralOn leftOf inSet
+plain-on line h = each-line plainOn refl line h
 
 module _ (line : ℕ) (h : isLine line ≡ true) where
   pub fault-permitted : permitsRecord line (Rejected (code "1")) ≡ true
@@ -45,16 +47,19 @@ module _ (line : ℕ) (h : isLine line ≡ true) where
   taken-permitted : permitsRecord line (Approved (code "A")) ≡ true
   taken-permitted = both-left (permitsRecord line (Approved (code "A"))) true (both-right (permitsRecord line (Rejected (code "A"))) _ plain-rest)
 
--- A with a key position on line 3
-key-on-3 : (key : ℕ) → oneOf (codes "AXY") key ≡ true → permitsRecord 3 (Approved key) ≡ true
-unfolding forms onLine lookIn formOf slotsIn countOf slotsOf packetOf leadOf isDecimal permits textOf bodyOf permittedFrom permitted permitsValue permitsValues permitsRecord numeralOn leftOf inSet dataType dataIn
-key-on-3 key h = oneOf-passes (λ (k : ℕ). permitsRecord 3 (Approved k)) (codes "AXY") key refl h
+-- A with a key position, on each line where A carries it
+abbrev keyedOn : ℕ → Bool
+keyedOn line = cond (lineOf line .keyed) (every (λ (k : ℕ). permitsRecord line (Approved k)) (codes "AXY")) true
+
+keyed-on : (line : ℕ) → isLine line ≡ true → keyedOn line ≡ true
+unfolding forms onLine lookIn typeRow formOf slotsIn countOf slotsOf dataType lineOf leadOf isDecimal permits ruled permitsNumber textOf bodyOf permittedFrom numberFits permitsValue permitsValues permitsRecord narrow numeralOn leftOf inSet
+keyed-on line h = each-line keyedOn refl line h
 
 key-permitted : (line key : ℕ) → isLine line ≡ true → keyFits line key ≡ true → permitsRecord line (Approved (keyOn line key)) ≡ true
 unfolding keyOn keyFits
 key-permitted line key h k =
-    on-test (eqb line 3)
-    (λ e. let l = eqb-true line 3 e in rw (e, l) (key-on-3 key (rw e at k)))
+    on-test (lineOf line .keyed)
+    (λ e. rw e (oneOf-passes (λ (k : ℕ). permitsRecord line (Approved k)) (codes "AXY") key (rw e at (keyed-on line h)) (rw e at k)))
     (λ e. rw e (taken-permitted line h))
 
 -- a record that may reply is permitted

@@ -3,8 +3,8 @@ use Prim.Native.Nat.{ℕ}
 use Prim.Native.Char.{code}
 use mathlib.Core.Bool.{Bool, true, cond}
 use lib.Dec.{eqb}
-use Rattle.laws.specs.Truth.{both, oneOf}
-use Rattle.laws.specs.Text.{codes}
+use Rattle.laws.specs.Truth.{both}
+use Rattle.forms.specs.Lines.{lineOf, isKey}
 use Rattle.forms.specs.Forms.{dataType}
 use Rattle.records.specs.Records.{typeOf}
 use Rattle.records.specs.declared.records.Record.{Record}
@@ -16,13 +16,9 @@ use Rattle.replying.specs.declared.replying.Wanted.the-variants.{None, I
 unfoldable pub mayReply : ℕ → Record → Bool
 mayReply line rec = both (eqb (typeOf rec) (dataType line)) (permitsRecord line rec)
 
--- a key position is A, X or Y
-abbrev pub isKey : ℕ → Bool
-isKey key = oneOf (codes "AXY") key
-
--- on line 3 each of them, on the others A
+-- a key position is A, X or Y where A carries it (on line 3), on the other lines A
 unfoldable pub keyFits : ℕ → ℕ → Bool
-keyFits line key = cond (eqb line 3) (isKey key) (eqb key (code "A"))
+keyFits line key = cond (lineOf line .keyed) (isKey key) (eqb key (code "A"))
 
 -- the record set for r, where one is set
 unfoldable pub wantedFits : ℕ → Wanted → Bool

@@ -3,6 +3,7 @@ use Prim.Native.Nat.{ℕ}
 use Prim.Native.Char.{code}
 use mathlib.Core.Bool.{cond}
 use lib.Dec.{eqb}
+use Rattle.forms.specs.Lines.{lineOf}
 use Rattle.records.specs.declared.records.Record.{Record}
 use Rattle.records.specs.declared.records.Record.the-variants.{Approved, Rejected}
 use Rattle.records.specs.Refusals.{No, refusalOf}
@@ -42,7 +43,7 @@ askedOf None = (Rejected (code "A"), nothingSet (code "A"))
 
 -- the answer A carries the key position on line 3 when it answers t; else it carries A
 unfoldable pub keyOn : ℕ → ℕ → ℕ
-keyOn line position = cond (eqb line 3) position (code "A")
+keyOn line position = cond (lineOf line .keyed) position (code "A")
 
 -- t: the oldest queued record, else A
 unfoldable pub polledOf : ℕ → ℕ → ℕ → Record → Reply

@@ -1,7 +1,9 @@
 // Which records and key positions may answer on a line (01 'Link rules', 'Desk').
 ghost use mathlib.Core.Path.{_≡_};
-ghost use Rattle.replying.specs.Fitting.{mayReply, isKey, keyFits, wantedFits};
+ghost use Rattle.replying.specs.Fitting.{mayReply, keyFits, wantedFits};
 use crate::replying::Wanted;
+use forms::lines::is_key;
+use forms::lines::line_of;
 use forms::table::data_type;
 use records::records::Record;
 use records::records::type_of;
@@ -18,27 +20,12 @@ pub fn may_reply(line: u8, rec: Record) -> bool
     }
 }
 
-// Whether a byte is A, X or Y.
-pub fn is_key(key: u8) -> bool
-    ensures { λ r. ⌜ r ≡ isKey key ⌝ }
-{
-    if key == b'A' {
-        return true;
-    }
-    if key == b'X' {
-        return true;
-    }
-    if key == b'Y' {
-        return true;
-    }
-    false
-}
-
-// Whether a key position is one of a line: A, X or Y on line 3, A on the others.
+// Whether a key position is one of a line: A, X or Y where A carries it, else A.
 pub fn key_fits(line: u8, key: u8) -> bool
     ensures { λ r. ⌜ r ≡ keyFits line key ⌝ }
 {
-    if line == 3 { is_key(key) } else { key == b'A' }
+    let row = line_of(line);
+    if row.keyed { is_key(key) } else { key == b'A' }
 }
 
 // Whether a requested record may answer r on a line.

@@ -3,6 +3,7 @@ ghost use mathlib.Core.Path.{_≡_};
 ghost use Rattle.deciding.specs.Deciding.{matterOf};
 ghost use Rattle.replying.specs.Replying.{originOf, keyOn, askedOf, polledOf, replyOf};
 use deciding::deciding::Matter;
+use forms::lines::line_of;
 use records::records::Record;
 use records::refusals::Refusal;
 
@@ -52,11 +53,12 @@ fn asked(wanted: Wanted) -> Reply
     }
 }
 
-// What A carries when it answers t: the key position on line 3, else A.
+// What A carries when it answers t: the key position on a line that has one, else A.
 fn key_on(line: u8, key: u8) -> u8
     ensures { λ r. ⌜ r ≡ keyOn line key ⌝ }
 {
-    if line == 3 { key } else { b'A' }
+    let row = line_of(line);
+    if row.keyed { key } else { b'A' }
 }
 
 // t: the oldest queued record, else A.

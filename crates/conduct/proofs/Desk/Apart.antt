@@ -6,6 +6,7 @@ use Rattle.desk.specs.Answers.{Done, done, lost, outcomeOf, Told, silent, fault
 use Rattle.desk.specs.Answers as t
 use Rattle.desk.specs.declared.answers.Outcome as o
 use Rattle.desk.specs.declared.answers.Heard as h
+use Rattle.conduct.specs.Desk.Apart.{OneOutcome, OneHeard}
 use Rattle.conduct.proofs.Back.{backOf, refusal-back}
 
 -- the answer of what is told: of a call that hears nothing
@@ -53,9 +54,8 @@ heard-back (h.the-variants.Fault noted n) = refl
 heard-back (h.the-variants.Repeat n) = refl
 heard-back (h.the-variants.Handled noted source n) = rw (source-back source)
 
--- so a promise through these definitions allows one answer only
-pub one-outcome : (a b : o.Outcome) → outcomeOf a ≡ outcomeOf b → a ≡ b
+pub one-outcome : OneOutcome
 one-outcome a b e = sym (outcome-back a) ∙ ap outcomeBack e ∙ outcome-back b
 
-pub one-heard : (a b : h.Heard) → toldOf a ≡ toldOf b → a ≡ b
+pub one-heard : OneHeard
 one-heard a b e = sym (heard-back a) ∙ ap heardBack e ∙ heard-back b

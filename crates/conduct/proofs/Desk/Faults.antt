@@ -1,6 +1,6 @@
 -- What the desk answers to a frame refused 1 to 7: N with 1 to a checksum fault with number byte '0' or '1', else nothing (01 'Link rules', 'Desk'). Assumes nothing.
 use mathlib.Core.Path.{_≡_, refl, sym, _∙_}
-use mathlib.Core.Bool.{true, false}
+use mathlib.Core.Bool.{true}
 use mathlib.Core.List.{List, _++_}
 use Prim.Native.Nat.{ℕ, _-_, _≤_}
 use Prim.Native.Char.{code}
@@ -14,9 +14,9 @@ use Rattle.records.specs.Refusals.{No}
 use Rattle.reading.specs.Answers.{accepted}
 use Rattle.reading.specs.Answers as w
 use Rattle.reading.specs.Reading.{readingOf}
-use Rattle.writing.specs.Writing.{telegramOf, sentOf}
+use Rattle.writing.specs.Writing.{sentOf}
 use Rattle.roundtrips.proofs.Trips.{written-reads}
-use Rattle.clock.specs.Room.{longest}
+use Rattle.characters.specs.Marks.{longest}
 use Rattle.clock.specs.Counters.{isNumber, numberIn}
 use Rattle.deciding.specs.Deciding.{Ruling, badFrame}
 use Rattle.deciding.specs.Deciding as r
@@ -28,8 +28,9 @@ use Rattle.desk.specs.Panel.{losesLine}
 use Rattle.desk.specs.Hearing.{faultedOf, appliedOf, ruling, hearOf}
 use Rattle.desk.specs.declared.state.Desk.{Desk}
 use Rattle.desk.proofs.Sendings.{hear-applied}
-use Rattle.conduct.proofs.Desk.Steps.{noted}
-use Rattle.conduct.proofs.Desk.Kept.{Fine, fits, noted-keeps}
+use Rattle.conduct.specs.Desk.Calls.{noted, Fine}
+use Rattle.conduct.specs.Desk.Faults.{faultAnswer, SumAnswers, SumReads, OthersSilent}
+use Rattle.conduct.proofs.Desk.Kept.{fits, noted-keeps}
 
 module _ (d : Desk) (f : Fine d) (at : ℕ) (frame out : List ℕ) (room : longest ≤ length out) where
   -- the first rule keeps the line
@@ -43,31 +44,29 @@ module _ (d : Desk) (f : Fine d) (at : ℕ) (frame out : List ℕ) (room : longe
   by-ruling : (s : Ruling) → s ≡ ruling (noted d at) frame → hearOf d at frame out ≡ appliedOf (noted d at) (losesLine d at) at s out
   by-ruling s e = sym (hear-applied d at frame out (f .ranged) room (losesLine d at) refl (noted d at) refl s e)
 
-  -- the answer to a checksum fault
-  abbrev answer : List ℕ
-  answer = telegramOf (d .line) (Rejected (code "1")) (numberIn (getD frame 4 0))
-
   module _ (x : No) (k : x .number ≡ 6) (q : readingOf (d .line) frame ≡ w.refused x) (n : isNumber (getD frame 4 0) ≡ true) where
     ruled : r.fault x (numberIn (getD frame 4 0)) ≡ ruling (noted d at) frame
     ruled = bad-sum (noted d at .good) (noted d at .last .0) x (getD frame 4 0) k n (numberIn (getD frame 4 0)) refl ∙ refused-ruling x q
 
-    -- A checksum fault with number byte '0' or '1' answers N with 1 and that number; the state is that of the first rule, and only the answer's bytes are filled.
-    pub sum-answers : hearOf d at frame out ≡ (noted d at, fault (losesLine d at) (code "1") (length answer), answer ++ drop (length answer) out)
+    sum-told : hearOf d at frame out ≡ (noted d at, fault (losesLine d at) (code "1") (length (faultAnswer d frame)), faultAnswer d frame ++ drop (length (faultAnswer d frame)) out)
     unfolding faultedOf sentOf
-    sum-answers = by-ruling (r.fault x (numberIn (getD frame 4 0))) ruled ∙ rw same-line
+    sum-told = by-ruling (r.fault x (numberIn (getD frame 4 0))) ruled ∙ rw same-line
 
-    -- It reads as N with 1 and that number.
-    pub sum-reads : readingOf (d .line) answer ≡ accepted (Rejected (code "1")) (numberIn (getD frame 4 0))
-    sum-reads =
+    sum-read : readingOf (d .line) (faultAnswer d frame) ≡ accepted (Rejected (code "1")) (numberIn (getD frame 4 0))
+    sum-read =
         written-reads (d .line) (Rejected (code "1")) (numberIn (getD frame 4 0)) (fault-permitted (d .line) (fits d f .lined))
         (rw (← ruled) at (ruling-number (noted d at .line) (noted d at .good) (noted d at .last .0) frame))
 
-  -- The other refusals 1 to 7 write nothing; the state is that of the first rule.
-  pub others-silent : (x : No) → readingOf (d .line) frame ≡ w.refused x → x .number ≤ 7 → (x .number ≡ 6 → isNumber (getD frame 4 0) ≡ false)
-      → hearOf d at frame out ≡ (noted d at, silent (losesLine d at) x, out)
-  others-silent x q b n =
-      by-ruling (r.silent x)
-      (on-test (eqb (x .number) 6)
-      (λ e. let k = eqb-true (x .number) 6 e in bad-sum-byte (noted d at .good) (noted d at .last .0) x (getD frame 4 0) k (n k))
-      (λ e. bad-low (noted d at .good) (noted d at .last .0) x (getD frame 4 0) (eqb-false (x .number) 6 e) (omega arith))
-      ∙ refused-ruling x q)
+pub sum-answers : SumAnswers
+sum-answers d f at frame out room x k q n = sum-told d f at frame out room x k q n
+
+pub sum-reads : SumReads
+sum-reads d f at frame out room x k q n = sum-read d f at frame out room x k q n
+
+pub others-silent : OthersSilent
+others-silent d f at frame out room x q b n =
+    by-ruling d f at frame out room (r.silent x)
+    (on-test (eqb (x .number) 6)
+    (λ e. let k = eqb-true (x .number) 6 e in bad-sum-byte (noted d at .good) (noted d at .last .0) x (getD frame 4 0) k (n k))
+    (λ e. bad-low (noted d at .good) (noted d at .last .0) x (getD frame 4 0) (eqb-false (x .number) 6 e) (omega arith))
+    ∙ refused-ruling d f at frame out room x q)

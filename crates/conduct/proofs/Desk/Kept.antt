@@ -9,12 +9,12 @@ use lib.Dec.{eqb}
 use lib.ListN.{length, drop, replicate, length-append, length-drop, length-set}
 use borrow.Author.Tests.{lt-ltb, le-ltb, ne-eqb}
 use Rattle.laws.proofs.Passes.{on-test}
-use Rattle.forms.specs.Forms.{isLine}
+use Rattle.forms.specs.Lines.{isLine, lineOf}
 use Rattle.records.specs.declared.records.Record.{Record}
 use Rattle.values.specs.Values.{permitsRecord}
 use Rattle.writing.specs.Writing.{telegramOf}
 use Rattle.roundtrips.proofs.Trips.{telegram-length, length-bounds}
-use Rattle.clock.specs.Room.{shortest, longest}
+use Rattle.characters.specs.Marks.{shortest, longest}
 use Rattle.deciding.specs.Deciding.{What, contents, notMaster, request, poll, other}
 use Rattle.replying.specs.Fitting.{mayReply, keyFits, wantedFits}
 use Rattle.replying.specs.Replying.{askedOf, polledOf}
@@ -29,14 +29,11 @@ use Rattle.desk.specs.Hearing.{withStored, marked, restarted, faultedOf, repeat
 use Rattle.desk.specs.declared.state.Desk.{Desk}
 use Rattle.desk.proofs.Ranges.{Fits, ranges-parts, parts-ranges, noted-ranges, kept-most}
 use Rattle.desk.proofs.Permitted.{answer-permitted}
-use Rattle.conduct.proofs.Desk.Waiting.{waiting, filled-behind, oldest-taken, every-behind, every-tail}
-use Rattle.conduct.proofs.Desk.Steps.{Call, ticks, queues, sets, turns, hears, Answered, did, heard, Behind, after, noted, Does, barred, noRoom, ticked, queued, isSet, turned, unmoved, faults, repeats, handled, does}
-
--- a state in its ranges, with 66 places for the stored answer and 8 for the queue
-pub record Fine (d : Desk) : Type 0 where
-  pub ranged : inRanges d ≡ true
-  pub stores : length (d .stored) ≡ longest
-  pub holds : length (d .queue) ≡ 8
+use Rattle.conduct.specs.Desk.Polls.{waiting}
+use Rattle.conduct.proofs.Desk.Waiting.{filled-behind, oldest-taken, every-behind, every-tail}
+use Rattle.conduct.specs.Desk.Calls.{Call, ticks, queues, sets, turns, hears, did, Behind, after, run, refusedBy, Fine}
+use Rattle.conduct.specs.Desk.Kept.{Bounds, Never15}
+use Rattle.conduct.proofs.Desk.Steps.{Does, barred, noRoom, ticked, queued, isSet, turned, unmoved, faults, repeats, handled, does}
 
 -- what a call keeps: the state is fine behind it, and the line is the same
 pub record Keeps (d e : Desk) : Type 0 where
@@ -46,7 +43,7 @@ pub record Keeps (d e : Desk) : Type 0 where
 -- the key position A is one of each line
 a-fits : (line : ℕ) → keyFits line (code "A") ≡ true
 unfolding keyFits
-a-fits line = on-test (eqb line 3) (λ e. rw e) (λ e. rw e)
+a-fits line = on-test (lineOf line .keyed) (λ e. rw e) (λ e. rw e)
 
 -- the start is fine
 fresh-fine : (line : ℕ) → isLine line ≡ true → Fine (fresh line)
@@ -219,17 +216,6 @@ module _ (d : Desk) (f : Fine d) where
   pub hear-keeps : (at : ℕ) (frame out : List ℕ) → Keeps d (hearOf d at frame out .0)
   hear-keeps at frame out = keeps d f (hears at frame out)
 
--- the number of the refusal that a call answers, 0 where it answers none
-abbrev pub refusedBy : Answered → ℕ
-refusedBy (did done) = 0
-refusedBy (did lost) = 0
-refusedBy (did (h.refused x)) = x .number
-refusedBy (heard (h.refused x) out) = x .number
-refusedBy (heard (silent noted x) out) = 0
-refusedBy (heard (fault noted cause n) out) = 0
-refusedBy (heard (repeat n) out) = 0
-refusedBy (heard (h.handled noted origin n) out) = 0
-
 -- in its ranges a state is not refused 15
 pub not-15 : (d : Desk) → inRanges d ≡ true → (call : Call) → ¬ (refusedBy (after d call .1) ≡ 15)
 unfolding faultedOf repeatedOf handledOf
@@ -251,11 +237,6 @@ not-15 d h call = go call (after d call) (does d h call)
     go call behind repeats q = omega arith
     go call behind (handled n what b) q = omega arith
 
--- a state behind calls, one after the other
-abbrev pub run : Desk → List Call → Desk
-run d [] = d
-run d (call ∷ calls) = run (after d call .0) calls
-
 pub runs-keep : (d : Desk) → Fine d → (calls : List Call) → Keeps d (run d calls)
 runs-keep d f [] = stays d f
 runs-keep d f (call ∷ calls) =
@@ -263,22 +244,10 @@ runs-keep d f (call ∷ calls) =
     let b = runs-keep (after d call .0) (a .fine) calls in
     record { fine = b .fine; line = b .line ∙ a .line }
 
--- the bounds of a fine state: at most 8 queued of 8 places, and at most 66 bytes kept of 66
-pub record Bounds (d : Desk) : Type 0 where
-  pub few : d .queued ≤ 8
-  pub short : d .kept ≤ longest
-  pub places : length (d .queue) ≡ 8
-  pub bytes : length (d .stored) ≡ longest
-
 pub fine-bounds : (d : Desk) → Fine d → Bounds d
 fine-bounds d f = let p = fits d f in record { few = p .few; short = kept-most (d .good) (d .kept) (p .stocked); places = f .holds; bytes = f .stores }
 
--- From the start the state is in its ranges and bounds behind any calls, on the line of the start, and no further call is refused 15.
-pub never-15 : (line : ℕ) → isLine line ≡ true → (calls : List Call) (call : Call)
-    → (inRanges (run (startOf line .0) calls) ≡ true)
-    × Bounds (run (startOf line .0) calls)
-    × (run (startOf line .0) calls .line ≡ line)
-    × ¬ (refusedBy (after (run (startOf line .0) calls) call .1) ≡ 15)
+pub never-15 : Never15
 never-15 line h calls call =
     let k = runs-keep (startOf line .0) (start-fine line h) calls in
     (k .fine .ranged, fine-bounds _ (k .fine), k .line ∙ start-line line h, not-15 (run (startOf line .0) calls) (k .fine .ranged) call)

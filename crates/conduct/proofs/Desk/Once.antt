@@ -9,7 +9,7 @@ use lib.ListN.{length, getD, take, drop}
 use lib.Seq.{take-append-seam}
 use borrow.Author.Tests.{eqb-true, eqb-false, ne-eqb}
 use Rattle.laws.proofs.Passes.{on-test}
-use Rattle.forms.specs.Forms.{isLine}
+use Rattle.forms.specs.Lines.{isLine}
 use Rattle.records.specs.declared.records.Record.{Record}
 use Rattle.values.specs.Values.{permitsRecord}
 use Rattle.reading.specs.Answers as w
@@ -32,58 +32,14 @@ use Rattle.desk.specs.declared.state.Waiting.{Waiting}
 use Rattle.desk.specs.declared.state.Desk.{Desk}
 use Rattle.replying.proofs.Permitted.{reply-allowed}
 use Rattle.desk.proofs.Permitted.{oldest-replies}
-use Rattle.conduct.proofs.Desk.Waiting.{waiting, filled-behind}
-use Rattle.conduct.proofs.Desk.Steps.{Call, ticks, queues, sets, turns, hears, Answered, did, heard, Behind, hearing, after, Does, does}
+use Rattle.conduct.specs.Desk.Calls.{Call, ticks, queues, sets, turns, hears, did, Behind, hearing, after, run, Fine}
+use Rattle.conduct.specs.Desk.Polls.{waiting, Answers}
+use Rattle.conduct.specs.Desk.Once.{records, queuedIn, givenIn, accepted, given, QueuedOnce}
+use Rattle.conduct.proofs.Desk.Waiting.{filled-behind}
+use Rattle.conduct.proofs.Desk.Steps.{Does, does}
 use Rattle.conduct.proofs.Desk.Steps as s
-use Rattle.conduct.proofs.Desk.Kept.{Fine, fits, keeps, run, start-fine}
-use Rattle.conduct.proofs.Desk.Polls.{Answers, polled, takes-oldest, answers-key}
-
--- the records that wait, the oldest first
-abbrev pub records : Desk → List Record
-records d = map (λ (s : Waiting). s .rec) (waiting d)
-
--- the record that a queueing brought, where it was done
-abbrev pub queuedIn : Call → Answered → List Record
-queuedIn (ticks at) answer = []
-queuedIn (queues rec) (did done) = rec ∷ []
-queuedIn (queues rec) (did lost) = []
-queuedIn (queues rec) (did (h.refused x)) = []
-queuedIn (queues rec) (heard told out) = []
-queuedIn (sets rec) answer = []
-queuedIn (turns position) answer = []
-queuedIn (hears at frame out) answer = []
-
--- the record that bytes read as
-abbrev pub readIn : w.Answer → List Record
-readIn (w.accepted rec n) = rec ∷ []
-readIn (w.refused x) = []
-
--- the record that an answer from the queue reads as on the line
-abbrev pub givenBy : ℕ → Origin → List ℕ → List Record
-givenBy line requested bytes = []
-givenBy line queue bytes = readIn (readingOf line bytes)
-givenBy line (key b) bytes = []
-givenBy line (panel a rec) bytes = []
-givenBy line (contents a x) bytes = []
-givenBy line (notMaster a) bytes = []
-givenBy line (nothingSet a) bytes = []
-
-abbrev pub givenIn : ℕ → Answered → List Record
-givenIn line (did x) = []
-givenIn line (heard (h.refused x) out) = []
-givenIn line (heard (silent noting x) out) = []
-givenIn line (heard (fault noting cause n) out) = []
-givenIn line (heard (repeat n) out) = []
-givenIn line (heard (handled noting origin n) out) = givenBy line origin (take n out)
-
--- the records that calls queued, and those that they gave out from the queue, in order
-abbrev pub accepted : Desk → List Call → List Record
-accepted d [] = []
-accepted d (call ∷ calls) = queuedIn call (after d call .1) ++ accepted (after d call .0) calls
-
-abbrev pub given : Desk → List Call → List Record
-given d [] = []
-given d (call ∷ calls) = givenIn (d .line) (after d call .1) ++ given (after d call .0) calls
+use Rattle.conduct.proofs.Desk.Kept.{fits, keeps, start-fine}
+use Rattle.conduct.proofs.Desk.Polls.{polled, takes-oldest, answers-key}
 
 -- what waits and what is queued is what is given and what waits then
 abbrev Balanced : Desk → Call → Behind → Type 0
@@ -175,7 +131,6 @@ start-empty : (line : ℕ) → isLine line ≡ true → records (startOf line .0
 unfolding startOf
 start-empty line h = rw h
 
--- From the start, the records given out, then those that still wait, are the records queued, each once and in order.
-pub queued-once : (line : ℕ) → isLine line ≡ true → (calls : List Call) → given (startOf line .0) calls ++ records (run (startOf line .0) calls) ≡ accepted (startOf line .0) calls
+pub queued-once : QueuedOnce
 queued-once line h calls =
     sym (each-once (startOf line .0) (start-fine line h) calls) ∙ ap (λ (x : List Record). x ++ accepted (startOf line .0) calls) (start-empty line h)

@@ -1,7 +1,7 @@
 -- A handled t takes exactly the oldest queued record, and no other hearing takes one (01 'Link rules', 'Desk'). Assumes nothing.
 use mathlib.Core.Path.{_≡_, refl, sym, ap, _∙_}
 use mathlib.Core.Bool.{Bool, true, false, cond}
-use mathlib.Core.List.{List, [], _∷_, _++_}
+use mathlib.Core.List.{List, [], _∷_}
 use Prim.Native.Nat.{ℕ, _-_, _≤_}
 use Prim.Native.Char.{code}
 use native.Mathlib.Omega.{arith}
@@ -9,8 +9,10 @@ use lib.Dec.{leb, eqb}
 use lib.ListN.{length, getD, take, drop}
 use borrow.Author.Tests.{leb-true, leb-false, eq-eqb, ne-eqb, eqb-true}
 use Rattle.laws.specs.Truth.{from}
-use Rattle.laws.proofs.Passes.{on-test, from-passes}
-use Rattle.forms.specs.Forms.{isLine, byMaster, forms, onLine, lookIn, formOf}
+use Rattle.laws.proofs.Passes.{on-test}
+use Rattle.forms.specs.Lines.{isLine, lineOf}
+use Rattle.forms.proofs.Found.{each-line}
+use Rattle.forms.specs.Forms.{byMaster, forms, onLine, lookIn, typeRow}
 use Rattle.records.specs.Records.{typeOf}
 use Rattle.records.specs.declared.records.Record.{Record}
 use Rattle.records.specs.declared.records.Record.the-variants.{Approved}
@@ -19,7 +21,7 @@ use Rattle.reading.specs.Answers.{Answer, accepted}
 use Rattle.reading.specs.Answers as w
 use Rattle.reading.specs.Reading.{readingOf}
 use Rattle.writing.specs.Writing.{telegramOf, sentOf}
-use Rattle.clock.specs.Room.{longest}
+use Rattle.characters.specs.Marks.{longest}
 use Rattle.clock.specs.Counters.{isNumber, numberIn}
 use Rattle.deciding.specs.Deciding.{Ruling, silent, fault, repeat, handle, What, contents, notMaster, request, poll, other, repeats, matterIn, goodFrame, badFrame, ruledBy, rulingIn}
 use Rattle.deciding.proofs.Rulings.{a-poll, good-handled, when-accepted}
@@ -33,19 +35,12 @@ use Rattle.desk.specs.Queue.{oldest, replyTo, shifted, takenBy}
 use Rattle.desk.specs.Hearing.{Hearing, faultedOf, repeatedOf, handledOf, appliedOf, ruling, hearOf}
 use Rattle.desk.specs.declared.state.Waiting.{Waiting}
 use Rattle.desk.specs.declared.state.Desk.{Desk}
-use Rattle.conduct.proofs.Desk.Waiting.{waiting, oldest-taken, oldest-first}
+use Rattle.conduct.specs.Desk.Calls.{noted, Fine}
+use Rattle.conduct.specs.Desk.Polls.{waiting, Answers, Same, PollsByT, TPolls, PollOldest, PollEmpty, OthersLeave}
+use Rattle.conduct.proofs.Desk.Waiting.{oldest-taken, oldest-first}
 use Rattle.desk.proofs.Sendings.{hear-room, hear-applied}
-use Rattle.conduct.proofs.Desk.Steps.{never, noted}
-use Rattle.conduct.proofs.Desk.Kept.{Fine, fits}
-
--- a hearing answers with a record from this origin: its telegram, with this number, fills the front of the output
-abbrev pub Answers : ℕ → Record → ℕ → Bool → Origin → List ℕ → Hearing → Type 0
-Answers line rec n noting origin out h =
-    (h .1 ≡ handled noting origin (length (telegramOf line rec n))) × (h .2 ≡ telegramOf line rec n ++ drop (length (telegramOf line rec n)) out)
-
--- the queue is as it was
-abbrev pub Same : Desk → Desk → Type 0
-Same d e = (e .queued ≡ d .queued) × (e .queue ≡ d .queue)
+use Rattle.conduct.proofs.Desk.Steps.{never}
+use Rattle.conduct.proofs.Desk.Kept.{fits}
 
 -- a poll heard, after the first rule
 module _ (d : Desk) (f : Fine d) (at n : ℕ) (out : List ℕ) where
@@ -71,14 +66,14 @@ module _ (d : Desk) (f : Fine d) (at n : ℕ) (out : List ℕ) where
   answers-key true q = rw (eq-eqb (d .queued) 0 q) (none-wait q, none-wait q, (refl, refl))
   answers-key false q = rw (eq-eqb (d .queued) 0 q) (none-wait q, none-wait q, (refl, refl))
 
--- the key position on line 3, A else
-pub key-on-3 : (line position : ℕ) → line ≡ 3 → keyOn line position ≡ position
+-- the key position where A carries it, A else
+pub key-carried : (line position : ℕ) → lineOf line .keyed ≡ true → keyOn line position ≡ position
 unfolding keyOn
-key-on-3 line position h = rw (eq-eqb line 3 h)
+key-carried line position h = rw h
 
-pub key-elsewhere : (line position : ℕ) → ¬ (line ≡ 3) → keyOn line position ≡ code "A"
+pub key-elsewhere : (line position : ℕ) → lineOf line .keyed ≡ false → keyOn line position ≡ code "A"
 unfolding keyOn
-key-elsewhere line position h = rw (ne-eqb line 3 h)
+key-elsewhere line position h = rw h
 
 -- the first rule leaves the queue as it was
 noted-queue : (d : Desk) (b : Bool) → Same d (notedOf d b)
@@ -137,50 +132,40 @@ module _ (line : ℕ) (good : Bool) (last n : ℕ) where
       go false b true e = let z = good-poll (numberIn byte) (contents x) e .1 in never (cc)
       go false b false e = never (cc)
 
-  -- A handled t is a frame that reads as t with that number.
-  pub polls-by-t : (frame : List ℕ) → rulingIn line good last frame ≡ handle n poll → (rec : Record) × (readingOf line frame ≡ accepted rec n) × (typeOf rec ≡ code "t")
-  unfolding rulingIn
-  polls-by-t frame e = go (readingOf line frame) e
-    where
-      go : (a : Answer) → ruledBy line good last (getD frame 4 0) a ≡ handle n poll → (rec : Record) × (a ≡ accepted rec n) × (typeOf rec ≡ code "t")
-      go (accepted rec k) e = let q = good-poll k (matterIn line rec) e in (rec, ap (accepted rec) (q .0), matter-poll rec (q .1))
-      go (w.refused x) e = bad-poll x (getD frame 4 0) e
+  read-poll : (a : Answer) (byte : ℕ) → ruledBy line good last byte a ≡ handle n poll → (rec : Record) × (a ≡ accepted rec n) × (typeOf rec ≡ code "t")
+  read-poll (accepted rec k) byte e = let q = good-poll k (matterIn line rec) e in (rec, ap (accepted rec) (q .0), matter-poll rec (q .1))
+  read-poll (w.refused x) byte e = bad-poll x byte e
+
+pub polls-by-t : PollsByT
+unfolding rulingIn
+polls-by-t line good last n frame e = read-poll line good last n (readingOf line frame) (getD frame 4 0) e
 
 -- the master sends t on each line
 t-sent : (line : ℕ) → isLine line ≡ true → byMaster line (code "t") ≡ true
-unfolding forms onLine lookIn formOf
-t-sent line h = from-passes (λ (l : ℕ). byMaster l (code "t")) 1 3 line refl h
+unfolding forms onLine lookIn typeRow
+t-sent line h = each-line (λ (l : ℕ). byMaster l (code "t")) refl line h
 
--- And such a frame is a handled t, where it is no repeat.
-pub t-polls : (line : ℕ) (good : Bool) (last : ℕ) → isLine line ≡ true → (frame : List ℕ) (rec : Record) (n : ℕ) → readingOf line frame ≡ accepted rec n → typeOf rec ≡ code "t"
-    → repeats good last n ≡ false → rulingIn line good last frame ≡ handle n poll
+pub t-polls : TPolls
 t-polls line good last l frame rec n r t h =
     let m = a-poll line rec (code "t") (sym t) (t-sent line l) (λ q. omega arith) refl in
     sym (ap (handle n) m ∙ good-handled good last n (matterIn line rec) h ∙ when-accepted line good last frame rec n (sym r))
 
-module _ (d : Desk) (f : Fine d) (at : ℕ) (frame out : List ℕ) where
-  module _ (room : longest ≤ length out) (n : ℕ) where
-    by-reply : (what : What) → ruling (noted d at) frame ≡ handle n what → handledOf (noted d at) (losesLine d at) at n (replyTo (noted d at) what) out ≡ hearOf d at frame out
-    by-reply what e = hear-applied d at frame out (f .ranged) room (losesLine d at) refl (noted d at) refl (handle n what) (sym e)
+by-reply : (d : Desk) → Fine d → (at : ℕ) (frame out : List ℕ) → longest ≤ length out → (n : ℕ) (what : What) → ruling (noted d at) frame ≡ handle n what
+    → handledOf (noted d at) (losesLine d at) at n (replyTo (noted d at) what) out ≡ hearOf d at frame out
+by-reply d f at frame out room n what e = hear-applied d at frame out (f .ranged) room (losesLine d at) refl (noted d at) refl (handle n what) (sym e)
 
-    -- A handled t with records queued is answered with the oldest, which leaves the queue; the others stay in their order.
-    pub poll-oldest : ruling (noted d at) frame ≡ handle n poll → ¬ (d .queued ≡ 0)
-        → (waiting d ≡ getD (d .queue) 0 blank ∷ waiting (hearOf d at frame out .0))
-        × Answers (d .line) (oldest d) n (losesLine d at) queue out (hearOf d at frame out)
-    poll-oldest e q = rw (← (by-reply poll e)) (takes-oldest d f at n out (losesLine d at) q)
+pub poll-oldest : PollOldest
+poll-oldest d f at frame out room n e q = rw (← (by-reply d f at frame out room n poll e)) (takes-oldest d f at n out (losesLine d at) q)
 
-    -- With an empty queue nothing leaves, and the answer is A: with the key position on line 3, with A else.
-    pub poll-empty : ruling (noted d at) frame ≡ handle n poll → d .queued ≡ 0
-        → (waiting d ≡ []) × (waiting (hearOf d at frame out .0) ≡ []) × Answers (d .line) (Approved (keyOn (d .line) (d .key))) n (losesLine d at) (key (keyOn (d .line) (d .key))) out (hearOf d at frame out)
-    poll-empty e q = rw (← (by-reply poll e)) (answers-key d f at n out (losesLine d at) q)
+pub poll-empty : PollEmpty
+poll-empty d f at frame out room n e q = rw (← (by-reply d f at frame out room n poll e)) (answers-key d f at n out (losesLine d at) q)
 
-  -- Any other hearing leaves the queue as it was: a telegram of another type, a repeat, a silent one.
-  pub others-leave : ((n : ℕ) → ¬ (ruling (noted d at) frame ≡ handle n poll)) → Same d (hearOf d at frame out .0)
-  others-leave h =
-      on-test (leb longest (length out))
-      (λ b.
-      let e = hear-applied d at frame out (f .ranged) (leb-true longest (length out) b) (losesLine d at) refl (noted d at) refl (ruling (noted d at) frame) refl in
-      let x = noted-queue d (losesLine d at) in
-      let y = ruled-queue (noted d at) (losesLine d at) at (ruling (noted d at) frame) out h in
-      rw (← e) (y .0 ∙ x .0, y .1 ∙ x .1))
-      (λ b. rw (← (hear-room d at frame out (f .ranged) (leb-false longest (length out) b))) (refl, refl))
+pub others-leave : OthersLeave
+others-leave d f at frame out h =
+    on-test (leb longest (length out))
+    (λ b.
+    let e = hear-applied d at frame out (f .ranged) (leb-true longest (length out) b) (losesLine d at) refl (noted d at) refl (ruling (noted d at) frame) refl in
+    let x = noted-queue d (losesLine d at) in
+    let y = ruled-queue (noted d at) (losesLine d at) at (ruling (noted d at) frame) out h in
+    rw (← e) (y .0 ∙ x .0, y .1 ∙ x .1))
+    (λ b. rw (← (hear-room d at frame out (f .ranged) (leb-false longest (length out) b))) (refl, refl))

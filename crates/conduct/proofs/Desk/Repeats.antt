@@ -1,35 +1,33 @@
 -- A repeat gives the stored bytes unchanged, handles nothing and takes nothing from the queue (01 'Link rules', 'Desk'). Assumes nothing.
 use mathlib.Core.Path.{_≡_, refl, sym, ap, _∙_}
 use mathlib.Core.Bool.{Bool, true, false, cond}
-use mathlib.Core.List.{List, _++_}
-use Prim.Native.Nat.{ℕ, _+_, _≤_}
-use Prim.Native.Char.{code}
+use mathlib.Core.List.{List}
+use Prim.Native.Nat.{ℕ}
 use native.Mathlib.Omega.{arith}
 use lib.Dec.{eqb, leb}
-use lib.ListN.{length, getD, drop}
+use lib.ListN.{length, getD}
 use borrow.Author.Tests.{leb-true, leb-false, eq-eqb}
 use Rattle.laws.specs.Truth.{from}
 use Rattle.laws.proofs.Truths.{clash, both-left}
 use Rattle.laws.proofs.Passes.{on-test}
-use Rattle.records.specs.declared.records.Record.{Record}
 use Rattle.records.specs.Refusals.{No}
 use Rattle.reading.specs.Answers.{Answer, accepted}
 use Rattle.reading.specs.Answers as w
 use Rattle.reading.specs.Reading.{readingOf}
 use Rattle.writing.specs.Writing.{sentOf}
-use Rattle.clock.specs.Room.{longest}
+use Rattle.characters.specs.Marks.{longest}
 use Rattle.clock.specs.Counters.{isNumber, numberIn}
 use Rattle.deciding.specs.Deciding.{What, contents, Ruling, silent, fault, handle, repeats, matterIn, goodFrame, badFrame, ruledBy, rulingIn}
 use Rattle.deciding.specs.Deciding as r
 use Rattle.deciding.proofs.Rulings.{by-number, good-repeat, when-accepted, when-refused, bad-contents}
 use Rattle.desk.specs.Answers.{repeat}
-use Rattle.desk.specs.State.{storedOf}
 use Rattle.desk.specs.Panel.{losesLine, notedOf}
 use Rattle.desk.specs.Hearing.{Hearing, faultedOf, repeatedOf, handledOf, appliedOf, ruling, hearOf}
 use Rattle.desk.specs.declared.state.Desk.{Desk}
 use Rattle.desk.proofs.Sendings.{hear-room, hear-applied}
-use Rattle.conduct.proofs.Desk.Steps.{never, noted}
-use Rattle.conduct.proofs.Desk.Kept.{Fine}
+use Rattle.conduct.specs.Desk.Calls.{noted}
+use Rattle.conduct.specs.Desk.Repeats.{RepeatStored, RepeatTold, ReadAgain, ContentsAgain}
+use Rattle.conduct.proofs.Desk.Steps.{never}
 
 -- a repeat needs a good line, and the last number taken
 module _ (line : ℕ) (good : Bool) (last n : ℕ) (what : What) where
@@ -71,55 +69,43 @@ noted-good d false h = refl
 same-number : (good : Bool) (last : ℕ) → good ≡ true → repeats good last last ≡ true
 same-number good last g = sym (by-number good last last g) ∙ eq-eqb last last refl
 
-module _ (d : Desk) (f : Fine d) (at : ℕ) (frame out : List ℕ) where
-  -- what a repeat leaves: the state as it was, and the stored answer in front of the output
-  abbrev pub Again : Hearing → Type 0
-  Again h = h ≡ (d, repeat (length (storedOf d)), storedOf d ++ drop (length (storedOf d)) out)
+pub repeat-stored : RepeatStored
+unfolding repeatedOf sentOf
+repeat-stored d f at frame out room n what e =
+    let g = noted-good d (losesLine d at) (again-good (noted d at .line) (noted d at .good) (noted d at .last .0) n what frame e) in
+    sym (hear-applied d at frame out (f .ranged) room (losesLine d at) refl (noted d at) refl (r.repeat n what) (sym e)) ∙ ap (λ (x : Desk). repeatedOf x out) g
 
-  -- A frame that is settled as a repeat changes nothing, and the output's front is the stored answer.
-  pub repeat-stored : longest ≤ length out → (n : ℕ) (what : What) → ruling (noted d at) frame ≡ r.repeat n what → Again (hearOf d at frame out)
-  unfolding repeatedOf sentOf
-  repeat-stored room n what e =
-      let g = noted-good d (losesLine d at) (again-good (noted d at .line) (noted d at .good) (noted d at .last .0) n what frame e) in
-      sym (hear-applied d at frame out (f .ranged) room (losesLine d at) refl (noted d at) refl (r.repeat n what) (sym e)) ∙ ap (λ (x : Desk). repeatedOf x out) g
+-- only a repeat tells of one
+only-again : (d : Desk) (at : ℕ) (out : List ℕ) (n : ℕ) (s : Ruling) → appliedOf (noted d at) (losesLine d at) at s out .1 ≡ repeat n → (k : ℕ) × (what : What) × (s ≡ r.repeat k what)
+unfolding faultedOf handledOf
+only-again d at out n (r.silent x) e = never (cc)
+only-again d at out n (r.fault x k) e = never (cc)
+only-again d at out n (r.repeat k what) e = (k, what, refl)
+only-again d at out n (r.handle k what) e = never (cc)
 
-  -- only a repeat tells of one
-  only-again : (n : ℕ) (s : Ruling) → appliedOf (noted d at) (losesLine d at) at s out .1 ≡ repeat n → (k : ℕ) × (what : What) × (s ≡ r.repeat k what)
-  unfolding faultedOf handledOf
-  only-again n (r.silent x) e = never (cc)
-  only-again n (r.fault x k) e = never (cc)
-  only-again n (r.repeat k what) e = (k, what, refl)
-  only-again n (r.handle k what) e = never (cc)
+pub repeat-told : RepeatTold
+repeat-told d f at frame out n e =
+    on-test (leb longest (length out))
+    (λ b.
+    let room = leb-true longest (length out) b in
+    let h = hear-applied d at frame out (f .ranged) room (losesLine d at) refl (noted d at) refl (ruling (noted d at) frame) refl in
+    let o = only-again d at out n (ruling (noted d at) frame) (ap (λ (x : Hearing). x .1) h ∙ e) in
+    repeat-stored d f at frame out room (o .0) (o .1) (o .2))
+    (λ b.
+    let h = ap (λ (x : Hearing). x .1) (hear-room d at frame out (f .ranged) (leb-false longest (length out) b)) in
+    never (cc))
 
-  -- So does a hearing that tells of a repeat.
-  pub repeat-told : (n : ℕ) → hearOf d at frame out .1 ≡ repeat n → Again (hearOf d at frame out)
-  repeat-told n e =
-      on-test (leb longest (length out))
-      (λ b.
-      let room = leb-true longest (length out) b in
-      let h = hear-applied d at frame out (f .ranged) room (losesLine d at) refl (noted d at) refl (ruling (noted d at) frame) refl in
-      let o = only-again n (ruling (noted d at) frame) (ap (λ (x : Hearing). x .1) h ∙ e) in
-      repeat-stored room (o .0) (o .1) (o .2))
-      (λ b.
-      let h = ap (λ (x : Hearing). x .1) (hear-room d at frame out (f .ranged) (leb-false longest (length out) b)) in
-      never (cc))
+pub read-again : ReadAgain
+unfolding notedOf
+read-again d at frame rec q g l =
+    rw l
+    (sym (good-repeat (d .good) (d .last .0) (d .last .0) (matterIn (d .line) rec) (same-number (d .good) (d .last .0) g)
+    ∙ when-accepted (d .line) (d .good) (d .last .0) frame rec (d .last .0) (sym q)))
 
-module _ (d : Desk) (at : ℕ) (frame : List ℕ) where
-  -- A good frame with the last number taken, on a good line before T1 has run out, is such a repeat: one that is read,
-  pub read-again : (rec : Record) → readingOf (d .line) frame ≡ accepted rec (d .last .0) → d .good ≡ true → losesLine d at ≡ false
-      → ruling (noted d at) frame ≡ r.repeat (d .last .0) (matterIn (d .line) rec)
-  unfolding notedOf
-  read-again rec q g l =
-      rw l
-      (sym (good-repeat (d .good) (d .last .0) (d .last .0) (matterIn (d .line) rec) (same-number (d .good) (d .last .0) g)
-      ∙ when-accepted (d .line) (d .good) (d .last .0) frame rec (d .last .0) (sym q)))
-
-  -- and one whose contents are refused.
-  pub contents-again : (x : No) → readingOf (d .line) frame ≡ w.refused x → 8 ≤ x .number → x .number ≤ 11 → getD frame 4 0 ≡ code "0" + d .last .0 → d .good ≡ true → losesLine d at ≡ false
-      → ruling (noted d at) frame ≡ r.repeat (d .last .0) (contents x)
-  unfolding notedOf
-  contents-again x q a b e g l =
-      rw l
-      (sym (good-repeat (d .good) (d .last .0) (d .last .0) (contents x) (same-number (d .good) (d .last .0) g)
-      ∙ bad-contents (d .good) (d .last .0) x (getD frame 4 0) (λ z. omega arith) a (omega arith) (d .last .0) (omega arith)
-      ∙ when-refused (d .line) (d .good) (d .last .0) frame x (getD frame 4 0) (sym q) refl))
+pub contents-again : ContentsAgain
+unfolding notedOf
+contents-again d at frame x q a b e g l =
+    rw l
+    (sym (good-repeat (d .good) (d .last .0) (d .last .0) (contents x) (same-number (d .good) (d .last .0) g)
+    ∙ bad-contents (d .good) (d .last .0) x (getD frame 4 0) (λ z. omega arith) a (omega arith) (d .last .0) (omega arith)
+    ∙ when-refused (d .line) (d .good) (d .last .0) frame x (getD frame 4 0) (sym q) refl))

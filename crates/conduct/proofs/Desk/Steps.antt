@@ -10,62 +10,29 @@ use lib.ListN.{length}
 use borrow.Author.Tests.{ltb-true}
 use Rattle.laws.specs.Truth.{both}
 use Rattle.laws.proofs.Passes.{on-test}
+use Rattle.forms.specs.Lines.{lineOf, isKey}
 use Rattle.forms.specs.Forms.{dataType}
 use Rattle.records.specs.Refusals.{No, no}
 use Rattle.records.specs.Records.{typeOf}
 use Rattle.records.specs.declared.records.Record.{Record}
 use Rattle.values.specs.Values.{permitsRecord}
 use Rattle.reading.specs.Answers.{Fault, good, fails}
-use Rattle.clock.specs.Room.{longest}
+use Rattle.characters.specs.Marks.{longest}
 use Rattle.deciding.specs.Deciding.{What, Ruling, answersWith}
 use Rattle.deciding.specs.Deciding as r
 use Rattle.deciding.proofs.Numbers.{ruling-number}
-use Rattle.replying.specs.Fitting.{isKey, mayReply, keyFits}
+use Rattle.replying.specs.Fitting.{mayReply, keyFits}
 use Rattle.desk.specs.Answers.{Done, done, lost, Told, silent}
 use Rattle.desk.specs.State.{inRanges}
 use Rattle.desk.specs.Panel.{losesLine, notedOf, withQueued, withRequested, withKey, recordFault, faultless, keyFault, tickOf, queueOf, setOf, keyOf}
 use Rattle.desk.specs.Queue.{replyTo}
 use Rattle.desk.specs.Hearing.{Hearing, faultedOf, repeatedOf, handledOf, appliedOf, ruling, heardOf, hearOf}
 use Rattle.desk.specs.declared.state.Desk.{Desk}
+use Rattle.conduct.specs.Desk.Calls.{Call, ticks, queues, sets, turns, hears, did, heard, Behind, saying, hearing, after, noted}
 
 -- two answers of different kinds are never equal
 pub never : {A : Type 0} → _≡_ {A = ℕ} 0 1 → A
 never z = let y : ⊥ = omega arith in absurd y
-
--- a call: its time where it has one, what it brings, and the output that it may fill
-pub data Call : Type 0 where
-  ticks : ℕ → Call
-  queues : Record → Call
-  sets : Record → Call
-  turns : ℕ → Call
-  hears : ℕ → List ℕ → List ℕ → Call
-
--- what a call answers: one that hears nothing, and a hearing with its output
-pub data Answered : Type 0 where
-  did : Done → Answered
-  heard : Told → List ℕ → Answered
-
--- the state behind a call, and what it answers
-abbrev pub Behind : Type 0
-Behind = Desk × Answered
-
-abbrev pub saying : Desk × Done → Behind
-saying s = (s .0, did (s .1))
-
-abbrev pub hearing : Hearing → Behind
-hearing h = (h .0, heard (h .1) (h .2))
-
--- what a call makes of the state
-abbrev pub after : Desk → Call → Behind
-after d (ticks at) = saying (tickOf d at)
-after d (queues rec) = saying (queueOf d rec)
-after d (sets rec) = saying (setOf d rec)
-after d (turns key) = saying (keyOf d key)
-after d (hears at frame out) = hearing (hearOf d at frame out)
-
--- the state after the first rule
-abbrev pub noted : Desk → ℕ → Desk
-noted d at = notedOf d (losesLine d at)
 
 -- what a call can do to a state in its ranges
 pub data Does (d : Desk) : Call → Behind → Type 0 where
@@ -114,7 +81,7 @@ module _ (d : Desk) (h : inRanges d ≡ true) (rec : Record) where
 module _ (d : Desk) (h : inRanges d ≡ true) (key : ℕ) where
   key-number : (x : No) → keyFault d key ≡ fails x → ¬ (x .number ≡ 15)
   unfolding keyFault
-  key-number x e = go (inRanges d) (eqb (d .line) 3) (isKey key) h e
+  key-number x e = go (inRanges d) (lineOf (d .line) .keyed) (isKey key) h e
     where
       go : (r l p : Bool) → r ≡ true → cond r (cond l (cond p good (fails (no 13 0))) (fails (no 12 0))) (fails (no 15 0)) ≡ fails x → ¬ (x .number ≡ 15)
       go true true true h e q = never (cc)
@@ -124,7 +91,7 @@ module _ (d : Desk) (h : inRanges d ≡ true) (key : ℕ) where
 
   key-fits : keyFault d key ≡ good → keyFits (d .line) key ≡ true
   unfolding keyFault keyFits
-  key-fits e = go (inRanges d) (eqb (d .line) 3) (isKey key) e
+  key-fits e = go (inRanges d) (lineOf (d .line) .keyed) (isKey key) e
     where
       go : (r l p : Bool) → cond r (cond l (cond p good (fails (no 13 0))) (fails (no 12 0))) (fails (no 15 0)) ≡ good → cond l p (eqb key (code "A")) ≡ true
       go true true true e = refl

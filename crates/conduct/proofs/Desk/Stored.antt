@@ -11,14 +11,16 @@ use lib.Seq.{take-append-seam}
 use borrow.Author.Tests.{eqb-true, eqb-false}
 use Rattle.laws.specs.Truth.{every}
 use Rattle.laws.proofs.Truths.{both-left, both-right}
-use Rattle.laws.proofs.Passes.{on-test, from-passes}
-use Rattle.forms.specs.Forms.{isLine, forms, onLine, lookIn, formOf, dataType, dataIn, bySlave}
+use Rattle.laws.proofs.Passes.{on-test}
+use Rattle.forms.proofs.Found.{each-line}
+use Rattle.forms.specs.Lines.{isLine}
+use Rattle.forms.specs.Forms.{forms, onLine, lookIn, typeRow, dataType, bySlave}
 use Rattle.records.specs.Records.{typeOf}
 use Rattle.records.specs.declared.records.Record.{Record}
 use Rattle.values.specs.Values.{permitsRecord}
 use Rattle.writing.specs.Writing.{telegramOf, sentOf}
 use Rattle.roundtrips.proofs.Trips.{telegram-length, length-bounds}
-use Rattle.clock.specs.Room.{shortest, longest}
+use Rattle.characters.specs.Marks.{shortest, longest}
 use Rattle.deciding.specs.Deciding.{What, contents, notMaster, request, poll, other}
 use Rattle.replying.specs.Fitting.{mayReply, wantedFits}
 use Rattle.replying.specs.Replying.{Origin, askedOf, polledOf}
@@ -32,17 +34,10 @@ use Rattle.desk.specs.Queue.{oldest, replyTo}
 use Rattle.desk.specs.Hearing.{faultedOf, repeatedOf, handledOf, hearOf}
 use Rattle.desk.specs.declared.state.Desk.{Desk}
 use Rattle.desk.proofs.Permitted.{oldest-replies, answer-permitted}
-use Rattle.conduct.proofs.Desk.Steps.{never, Call, hears, heard, Behind, after, noted, Does, barred, noRoom, ticked, queued, isSet, turned, unmoved, faults, repeats, handled, does}
-use Rattle.conduct.proofs.Desk.Kept.{Fine, fits, noted-keeps, replied-keeps, keeps, run, runs-keep, start-fine, start-line}
-
--- the bytes are the telegram of a record that the slave sends on the line, with permitted values, and this number; they are 10 to 66
-pub record Holding (line number : ℕ) (bytes : List ℕ) : Type 0 where
-  pub rec : Record
-  pub ofSlave : bySlave line (typeOf rec) ≡ true
-  pub permitted : permitsRecord line rec ≡ true
-  pub telegram : bytes ≡ telegramOf line rec number
-  pub least : shortest ≤ length bytes
-  pub most : length bytes ≤ longest
+use Rattle.conduct.specs.Desk.Calls.{Call, hears, heard, Behind, after, run, noted, Fine}
+use Rattle.conduct.specs.Desk.Stored.{Holding, StoredTelegram, StoredAsSent}
+use Rattle.conduct.proofs.Desk.Steps.{never, Does, barred, noRoom, ticked, queued, isSet, turned, unmoved, faults, repeats, handled, does}
+use Rattle.conduct.proofs.Desk.Kept.{fits, noted-keeps, replied-keeps, keeps, runs-keep, start-fine, start-line}
 
 -- where the line has a stored answer, it is such with the last number taken
 abbrev pub Holds : Desk → Type 0
@@ -50,8 +45,8 @@ Holds d = ¬ (d .kept ≡ 0) → (d .kept ≡ length (storedOf d)) × Holding (d
 
 -- the slave sends A, N and its data type
 slave-sends : (line : ℕ) → isLine line ≡ true → every (bySlave line) (code "A" ∷ code "N" ∷ dataType line ∷ []) ≡ true
-unfolding forms onLine lookIn formOf dataType dataIn
-slave-sends line h = from-passes (λ (l : ℕ). every (bySlave l) (code "A" ∷ code "N" ∷ dataType l ∷ [])) 1 3 line refl h
+unfolding forms onLine lookIn typeRow dataType
+slave-sends line h = each-line (λ (l : ℕ). every (bySlave l) (code "A" ∷ code "N" ∷ dataType l ∷ [])) refl line h
 
 module _ (line : ℕ) (h : isLine line ≡ true) where
   sends-a : bySlave line (code "A") ≡ true
@@ -135,17 +130,13 @@ start-none : (line : ℕ) → startOf line .0 .kept ≡ 0
 unfolding startOf
 start-none line = on-test (isLine line) (λ e. rw e) (λ e. rw e)
 
--- Whatever calls are made from the start, a stored answer is the telegram of a permitted record of the slave on this line with the last number taken, of 10 to 66 bytes.
-pub stored-telegram : (line : ℕ) → isLine line ≡ true → (calls : List Call) (d : Desk) → d ≡ run (startOf line .0) calls → ¬ (d .kept ≡ 0)
-    → (d .kept ≡ length (storedOf d)) × Holding line (d .last .0) (storedOf d)
+pub stored-telegram : StoredTelegram
 stored-telegram line h calls d e n =
     let l : d .line ≡ line = ap (λ (x : Desk). x .line) e ∙ runs-keep (startOf line .0) (start-fine line h) calls .line ∙ start-line line h in
     let k : Holds d = rw e (holds-run (startOf line .0) (start-fine line h) (λ q. absurd (q (start-none line))) calls) in
     rw l at (k n)
 
--- The answer to a handled telegram is stored as it was sent.
-pub stored-as-sent : (d : Desk) → Fine d → (at : ℕ) (frame out : List ℕ) (noting : Bool) (origin : Origin) (n : ℕ) → hearOf d at frame out .1 ≡ h.handled noting origin n
-    → (hearOf d at frame out .0 .kept ≡ n) × (storedOf (hearOf d at frame out .0) ≡ take n (hearOf d at frame out .2))
+pub stored-as-sent : StoredAsSent
 unfolding faultedOf repeatedOf handledOf sentOf
 stored-as-sent d f at frame out noting origin n e = go (hears at frame out) (after d (hears at frame out)) (hearOf d at frame out .2) (does d (f .ranged) (hears at frame out)) (ap (λ (t : Told). heard t (hearOf d at frame out .2)) e)
   where

@@ -14,10 +14,6 @@ use Rattle.desk.specs.Queue.{shifted}
 use Rattle.desk.specs.declared.state.Waiting.{Waiting}
 use Rattle.desk.specs.declared.state.Desk.{Desk}
 
--- the places that hold queued records, the oldest first
-abbrev pub waiting : Desk → List Waiting
-waiting d = take (d .queued) (d .queue)
-
 -- a place filled behind those that are queued
 pub filled-behind : (q : List Waiting) (n : ℕ) (s : Waiting) → n < length q → take (n + 1) (set q n s) ≡ take n q ++ (s ∷ [])
 filled-behind q n s h = rw (add-one n) (take-suc-set q n s h)

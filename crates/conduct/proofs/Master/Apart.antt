@@ -7,6 +7,7 @@ use Rattle.master.specs.Answers.{Why, free, runOut, otherNumber, whyOf, Told, n
 use Rattle.master.specs.declared.answers.Reason as r
 use Rattle.master.specs.declared.answers.Answer as a
 use Rattle.master.specs.Answers as t
+use Rattle.conduct.specs.Master.Apart.{OneAnswer}
 use Rattle.conduct.proofs.Back.{backOf, refusal-back}
 
 -- the answer of what is told: of a reading
@@ -50,6 +51,5 @@ answer-back (a.the-variants.OtherKind reading count) = rw (reading-back reading)
 answer-back (a.the-variants.GivenUp cause count) = refl
 answer-back (a.the-variants.Ignored why) = rw (reason-back why)
 
--- so a promise through these definitions allows one answer only
-pub one-answer : (x y : a.Answer) → toldOf x ≡ toldOf y → x ≡ y
+pub one-answer : OneAnswer
 one-answer x y e = sym (answer-back x) ∙ ap answerBack e ∙ answer-back y

@@ -16,7 +16,7 @@ use Rattle.reading.specs.Frame.{frameChecks}
 use Rattle.reading.specs.Reading.{readingOf}
 use Rattle.clock.specs.Clock.{runOut}
 use Rattle.clock.specs.Counters.{sameNumber, numberIn}
-use Rattle.clock.specs.Room.{longest}
+use Rattle.characters.specs.Marks.{longest}
 use Rattle.judging.specs.Rules.{pollOf, isFailure, permittedAnswer}
 use Rattle.judging.specs.Judging.{Judged, answeredBy, takenOf, unlessBad, judgeOf}
 use Rattle.judging.specs.Judging as j
@@ -30,36 +30,15 @@ use Rattle.master.specs.Sending.{Behind, t0Limit, t2Limit, unlessRefused, sendi
 use Rattle.master.specs.Hearing.{settledOf, judged, hearOf}
 use Rattle.master.proofs.Ranges.{passed, lined, sendable-both, poll-sendable}
 use Rattle.master.proofs.Sends.{offer-passed}
+use Rattle.conduct.specs.Master.Calls.{Call, offers, ticks, hears, outputOf, after, First, offered, polled, lineAfter}
 use Rattle.reading.specs.Answers as w
 use Rattle.master.specs.Answers as t
-
--- a call: its time, what it brings, and the output that it may fill
-pub data Call : Type 0 where
-  offers : ℕ → Record → List ℕ → Call
-  ticks : ℕ → List ℕ → Call
-  hears : ℕ → List ℕ → List ℕ → Call
-
-abbrev pub outputOf : Call → List ℕ
-outputOf (offers at rec out) = out
-outputOf (ticks at out) = out
-outputOf (hears at frame out) = out
-
--- what a call makes of the state
-abbrev pub after : Master → Call → Behind
-after m (offers at rec out) = offerOf m at rec out
-after m (ticks at out) = tickOf m at out
-after m (hears at frame out) = hearOf m at frame out
 
 -- an answer of a call that changes nothing: refused, but not 15; nothing; ignored
 pub data Quiet : t.Told → Type 0 where
   barred : {x : No} → ¬ (x .number ≡ 15) → Quiet (t.Told.refused x)
   idle : Quiet t.nothing
   unheard : {why : t.Why} → Quiet (t.ignored why)
-
--- the first sending of a telegram: of the offered record, or of the poll
-pub data First (m : Master) : Call → Sending → Record → Type 0 where
-  offered : {at : ℕ} {rec : Record} {out : List ℕ} → First m (offers at rec out) Offered rec
-  polled : {at : ℕ} {out : List ℕ} → First m (ticks at out) Poll (pollOf (m .line))
 
 -- the answer that ends a telegram, permitted or of another kind, reported with the sending count
 pub data Ends (count : ℕ) : t.Told → Type 0 where
@@ -105,11 +84,6 @@ module _ (line number sent : ℕ) (frame : List ℕ) where
       go w.good true e = (refl, ending-reading (readingOf line frame) e)
       go w.good false e = absurd e
       go (w.fails x) b e = absurd e
-
--- giving up by silence notes the line lost; by N it stays good
-abbrev pub lineAfter : Cause → Bool
-lineAfter Silence = false
-lineAfter Rejected = true
 
 -- what a call can do to a state in its ranges
 pub data Does (m : Master) (call : Call) : Behind → Type 0 where

@@ -6,7 +6,7 @@ use Prim.Native.Nat.{ℕ, _+_, _≤_}
 use native.Mathlib.Omega.{arith}
 use borrow.Author.Tests.{eqb-false}
 use Rattle.laws.proofs.Truths.{clash}
-use Rattle.forms.specs.Forms.{isLine}
+use Rattle.forms.specs.Lines.{isLine}
 use Rattle.master.specs.declared.state.Master.{Master}
 use Rattle.master.specs.declared.answers.Sending.{Sending}
 use Rattle.master.specs.declared.answers.Sending.the-variants.{Offered, Again, Poll}
@@ -14,43 +14,10 @@ use Rattle.master.specs.Answers.{Told, refused, nothing, sent, answered, otherK
 use Rattle.master.specs.State.{isFree, inRanges, started}
 use Rattle.master.specs.Sending.{Behind, sendingOf}
 use Rattle.master.proofs.Ranges.{counted}
-use Rattle.conduct.proofs.Master.Calls.{Call, after, Quiet, barred, idle, unheard, First, offered, polled, Ends, permitted, strange, Does, stays, begins, repeats, ends, givesUp, does}
+use Rattle.conduct.specs.Master.Calls.{Call, after, First, offered, polled}
+use Rattle.conduct.specs.Master.Counts.{oneMore, tally, Reports, Counted, CountMade}
+use Rattle.conduct.proofs.Master.Calls.{Quiet, barred, idle, unheard, Ends, permitted, strange, Does, stays, begins, repeats, ends, givesUp, does}
 use Rattle.conduct.proofs.Master.Kept.{keeps, start-ranged}
-
--- how many sendings are made behind one more, of n made so far: a first sending counts anew
-abbrev pub oneMore : ℕ → Sending → ℕ
-oneMore n Offered = 1
-oneMore n Again = n + 1
-oneMore n Poll = 1
-
--- the sendings made since the first of the telegram, behind one more answer
-abbrev pub tally : ℕ → Told → ℕ
-tally n (refused x) = n
-tally n nothing = n
-tally n (sent sending count bytes) = oneMore n sending
-tally n (answered rec count) = n
-tally n (otherKind answer count) = n
-tally n (givenUp cause count) = n
-tally n (ignored why) = n
-
--- a count that is reported equals a number, which is 1 to 3
-abbrev Equals : ℕ → ℕ → Type 0
-Equals count n = (count ≡ n) × ((1 ≤ count) × (count ≤ 3))
-
--- the count that an answer reports, where it reports one, is this number
-abbrev pub Reports : Told → ℕ → Type 0
-Reports (refused x) n = Unit {0}
-Reports nothing n = Unit {0}
-Reports (sent sending count bytes) n = Equals count n
-Reports (answered rec count) n = Equals count n
-Reports (otherKind answer count) n = Equals count n
-Reports (givenUp cause count) n = Equals count n
-Reports (ignored why) n = Unit {0}
-
--- each answer of a run of calls reports the sendings made, of which n were made before it
-abbrev pub Counted : ℕ → Master → List Call → Type 0
-Counted n m [] = Unit {0}
-Counted n m (call ∷ calls) = Reports (after m call .1 .0) (tally n (after m call .1 .0)) × Counted (tally n (after m call .1 .0)) (after m call .0) calls
 
 -- while not free the state's count is the sendings made
 abbrev Holds : ℕ → Master → Type 0
@@ -87,6 +54,5 @@ counts n m h k (call ∷ calls) =
     let s = step m h n k call (after m call) (does m h call) in
     (s .0, counts (tally n (after m call .1 .0)) (after m call .0) (keeps m h call) (s .1) calls)
 
--- Whatever calls are made from the start, each count that is reported is the sendings made since the first of its telegram, and is 1 to 3.
-pub count-made : (line at : ℕ) → isLine line ≡ true → (calls : List Call) → Counted 0 (started line at) calls
+pub count-made : CountMade
 count-made line at h calls = counts 0 (started line at) (start-ranged line at h) (λ q. refl) calls

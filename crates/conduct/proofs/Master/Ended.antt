@@ -4,62 +4,54 @@ use mathlib.Core.Bool.{Bool, true}
 use Prim.Native.Nat.{ℕ}
 use native.Mathlib.Omega.{arith}
 use Rattle.clock.specs.Counters.{changedOf}
-use Rattle.reading.specs.Answers.{Answer}
 use Rattle.master.specs.declared.state.Master.{Master}
 use Rattle.master.specs.declared.answers.Cause.{Cause}
 use Rattle.master.specs.Answers.{Told, otherKind, givenUp}
 use Rattle.master.specs.State.{isFree, inRanges}
 use Rattle.master.specs.Sending.{Behind, sendingOf}
-use Rattle.conduct.proofs.Master.Calls.{Call, after, Quiet, barred, idle, unheard, Ends, permitted, strange, lineAfter, Does, stays, begins, repeats, ends, givesUp, does}
+use Rattle.conduct.specs.Master.Calls.{Call, after, lineAfter}
+use Rattle.conduct.specs.Master.Ended.{Freed, AfterGivingUp, AfterOtherKind}
+use Rattle.conduct.proofs.Master.Calls.{Quiet, barred, idle, unheard, Ends, permitted, strange, Does, stays, begins, repeats, ends, givesUp, does}
 
 -- two answers of different kinds are never equal
 never : {A : Type 0} → _≡_ {A = ℕ} 0 1 → A
 never z = let y : ⊥ = omega arith in absurd y
 
--- free, with this number to send and this note of the line
-pub record Freed (m : Master) (number : ℕ) (g : Bool) : Type 0 where
-  pub free : isFree m ≡ true
-  pub numbered : m .number .0 ≡ number
-  pub line : m .good ≡ g
+pub after-giving-up : AfterGivingUp
+unfolding sendingOf
+after-giving-up m h call cause n e = go (after m call) (does m h call) e
+  where
+    quiet : {A : Type 0} (told : Told) → Quiet told → told ≡ givenUp cause n → A
+    quiet told (barred x) q = never (cc)
+    quiet told idle q = never (cc)
+    quiet told unheard q = never (cc)
 
-module _ (m : Master) (h : inRanges m ≡ true) (call : Call) where
-  -- After a giving up the master is free with number 0, three sendings were made, and the line is lost by silence and good by N.
-  pub after-giving-up : (cause : Cause) (n : ℕ) → after m call .1 .0 ≡ givenUp cause n → (n ≡ 3) × Freed (after m call .0) 0 (lineAfter cause)
-  unfolding sendingOf
-  after-giving-up cause n e = go (after m call) (does m h call) e
-    where
-      quiet : {A : Type 0} (told : Told) → Quiet told → told ≡ givenUp cause n → A
-      quiet told (barred x) q = never (cc)
-      quiet told idle q = never (cc)
-      quiet told unheard q = never (cc)
+    over : {A : Type 0} (told : Told) → Ends (m .count) told → told ≡ givenUp cause n → A
+    over told permitted q = never (cc)
+    over told strange q = never (cc)
 
-      over : {A : Type 0} (told : Told) → Ends (m .count) told → told ≡ givenUp cause n → A
-      over told permitted q = never (cc)
-      over told strange q = never (cc)
+    go : (turn : Behind) → Does m call turn → turn .1 .0 ≡ givenUp cause n → (n ≡ 3) × Freed (turn .0) 0 (lineAfter cause)
+    go turn (stays told x) q = quiet told x q
+    go turn (begins sending rec at f free s r) q = never (cc)
+    go turn (repeats g at f x r) q = never (cc)
+    go turn (ends told x f b) q = over told x q
+    go turn (givesUp why f c) q =
+        let x : why ≡ cause = cc in
+        let y : m .count ≡ n = cc in
+        (omega arith, record { free = refl; numbered = refl; line = ap lineAfter x })
 
-      go : (turn : Behind) → Does m call turn → turn .1 .0 ≡ givenUp cause n → (n ≡ 3) × Freed (turn .0) 0 (lineAfter cause)
-      go turn (stays told x) q = quiet told x q
-      go turn (begins sending rec at f free s r) q = never (cc)
-      go turn (repeats g at f x r) q = never (cc)
-      go turn (ends told x f b) q = over told x q
-      go turn (givesUp why f c) q =
-          let x : why ≡ cause = cc in
-          let y : m .count ≡ n = cc in
-          (omega arith, record { free = refl; numbered = refl; line = ap lineAfter x })
+pub after-other-kind : AfterOtherKind
+unfolding sendingOf
+after-other-kind m h call answer n e = go (after m call) (does m h call) e
+  where
+    quiet : {A : Type 0} (told : Told) → Quiet told → told ≡ otherKind answer n → A
+    quiet told (barred x) q = never (cc)
+    quiet told idle q = never (cc)
+    quiet told unheard q = never (cc)
 
-  -- An answer of another kind ends the telegram: the master is free, the number changes and the line is good.
-  pub after-other-kind : (answer : Answer) (n : ℕ) → after m call .1 .0 ≡ otherKind answer n → Freed (after m call .0) (changedOf (m .number .0)) true
-  unfolding sendingOf
-  after-other-kind answer n e = go (after m call) (does m h call) e
-    where
-      quiet : {A : Type 0} (told : Told) → Quiet told → told ≡ otherKind answer n → A
-      quiet told (barred x) q = never (cc)
-      quiet told idle q = never (cc)
-      quiet told unheard q = never (cc)
-
-      go : (turn : Behind) → Does m call turn → turn .1 .0 ≡ otherKind answer n → Freed (turn .0) (changedOf (m .number .0)) true
-      go turn (stays told x) q = quiet told x q
-      go turn (begins sending rec at f free s r) q = never (cc)
-      go turn (repeats g at f x r) q = never (cc)
-      go turn (ends told x f b) q = record { free = refl; numbered = refl; line = refl }
-      go turn (givesUp cause f c) q = never (cc)
+    go : (turn : Behind) → Does m call turn → turn .1 .0 ≡ otherKind answer n → Freed (turn .0) (changedOf (m .number .0)) true
+    go turn (stays told x) q = quiet told x q
+    go turn (begins sending rec at f free s r) q = never (cc)
+    go turn (repeats g at f x r) q = never (cc)
+    go turn (ends told x f b) q = record { free = refl; numbered = refl; line = refl }
+    go turn (givesUp cause f c) q = never (cc)

@@ -9,19 +9,16 @@ use borrow.Author.Tests.{lt-ltb}
 use Rattle.laws.specs.Truth.{either}
 use Rattle.laws.proofs.Truths.{clash}
 use Rattle.records.specs.Refusals.{No}
-use Rattle.forms.specs.Forms.{isLine}
+use Rattle.forms.specs.Lines.{isLine}
 use Rattle.clock.specs.Counters.{changedOf}
 use Rattle.master.specs.declared.state.Master.{Master}
 use Rattle.master.specs.Answers.{Told, refused}
 use Rattle.master.specs.State.{isFree, sendable, inRanges, started}
 use Rattle.master.specs.Sending.{Behind, sendingOf}
 use Rattle.master.proofs.Ranges.{lined, numbered, counted, sends}
-use Rattle.conduct.proofs.Master.Calls.{Call, after, Quiet, barred, idle, unheard, Ends, permitted, strange, Does, stays, begins, repeats, ends, givesUp, does}
-
--- a state behind calls, one after the other
-abbrev pub run : Master → List Call → Master
-run m [] = m
-run m (call ∷ calls) = run (after m call .0) calls
+use Rattle.conduct.specs.Master.Calls.{Call, after, run}
+use Rattle.conduct.specs.Master.Kept.{Never15}
+use Rattle.conduct.proofs.Master.Calls.{Quiet, barred, idle, unheard, Ends, permitted, strange, Does, stays, begins, repeats, ends, givesUp, does}
 
 -- the start is in range
 pub start-ranged : (line at : ℕ) → isLine line ≡ true → inRanges (started line at) ≡ true
@@ -89,9 +86,7 @@ not-15 m h call x e = go (after m call) (does m h call) e
     go turn (ends told n f b) q = over (m .count) told n q
     go turn (givesUp cause f c) q = clash (cc)
 
--- From the start the state is in its ranges behind any calls, and no further call is refused 15.
-pub never-15 : (line at : ℕ) → isLine line ≡ true → (calls : List Call) (call : Call)
-    → (inRanges (run (started line at) calls) ≡ true) × ((x : No) → after (run (started line at) calls) call .1 .0 ≡ refused x → ¬ (x .number ≡ 15))
+pub never-15 : Never15
 never-15 line at h calls call =
     let k = stays-ranged (started line at) (start-ranged line at h) calls in
     (k, not-15 (run (started line at) calls) k call)

@@ -6,7 +6,7 @@ use Prim.Native.Nat.{ℕ, _+_}
 use lib.ListN.{length, take, drop}
 use lib.Seq.{take-at, drop-at}
 use Rattle.laws.proofs.Truths.{clash}
-use Rattle.forms.specs.Forms.{isLine}
+use Rattle.forms.specs.Lines.{isLine}
 use Rattle.records.specs.declared.records.Record.{Record}
 use Rattle.writing.specs.Writing.{telegramOf, sentOf}
 use Rattle.master.specs.declared.state.Master.{Master}
@@ -15,42 +15,10 @@ use Rattle.master.specs.declared.answers.Sending.the-variants.{Again}
 use Rattle.master.specs.Answers.{Told, refused, nothing, sent, answered, otherKind, givenUp, ignored}
 use Rattle.master.specs.State.{isFree, inRanges, withLine, started}
 use Rattle.master.specs.Sending.{Behind, sendingOf}
-use Rattle.conduct.proofs.Master.Calls.{Call, outputOf, after, Quiet, barred, idle, unheard, First, Ends, permitted, strange, Does, stays, begins, repeats, ends, givesUp, does}
+use Rattle.conduct.specs.Master.Calls.{Call, outputOf, after, First}
+use Rattle.conduct.specs.Master.Same.{Right, first, same, Leaves, lastSent, Sent, SameBytes}
+use Rattle.conduct.proofs.Master.Calls.{Quiet, barred, idle, unheard, Ends, permitted, strange, Does, stays, begins, repeats, ends, givesUp, does}
 use Rattle.conduct.proofs.Master.Kept.{keeps, start-ranged}
-
--- the bytes of a sending, where held are those of the sending before it
-pub data Right (held : List ℕ) (m : Master) (call : Call) (sending : Sending) (bytes : List ℕ) : Type 0 where
-  -- a first sending: the telegram of the offered record or of the poll, with the number to send
-  first : {rec : Record} → First m call sending rec → bytes ≡ telegramOf (m .line) rec (m .number .0) → Right held m call sending bytes
-  -- again: the same bytes
-  same : sending ≡ Again → bytes ≡ held → Right held m call sending bytes
-
--- what a call leaves in the output: a sending fills its front and keeps the bytes behind it; a call that sends nothing writes nothing
-abbrev pub Leaves : List ℕ → Master → Call → Told → List ℕ → Type 0
-Leaves held m call (refused x) new = new ≡ outputOf call
-Leaves held m call nothing new = new ≡ outputOf call
-Leaves held m call (sent sending count n) new = Right held m call sending (take n new) × (drop n new ≡ drop n (outputOf call))
-Leaves held m call (answered rec count) new = new ≡ outputOf call
-Leaves held m call (otherKind answer count) new = new ≡ outputOf call
-Leaves held m call (givenUp cause count) new = new ≡ outputOf call
-Leaves held m call (ignored why) new = new ≡ outputOf call
-
--- the bytes of the last sending, behind one more answer
-abbrev pub lastSent : List ℕ → Told → List ℕ → List ℕ
-lastSent held (refused x) new = held
-lastSent held nothing new = held
-lastSent held (sent sending count n) new = take n new
-lastSent held (answered rec count) new = held
-lastSent held (otherKind answer count) new = held
-lastSent held (givenUp cause count) new = held
-lastSent held (ignored why) new = held
-
--- each call of a run leaves that in its output
-abbrev pub Sent : List ℕ → Master → List Call → Type 0
-Sent held m [] = Unit {0}
-Sent held m (call ∷ calls) =
-    Leaves held m call (after m call .1 .0) (after m call .1 .1)
-    × Sent (lastSent held (after m call .1 .0) (after m call .1 .1)) (after m call .0) calls
 
 -- while not free the bytes of the last sending are the telegram of the state's record and number
 abbrev Holds : List ℕ → Master → Type 0
@@ -101,6 +69,5 @@ all-sent held m h k (call ∷ calls) =
     let s = step m held k call (after m call) (does m h call) in
     (s .0, all-sent (lastSent held (after m call .1 .0) (after m call .1 .1)) (after m call .0) (keeps m h call) (s .1) calls)
 
--- Whatever calls are made from the start, each first sending is the telegram of the offered record or of the poll with the number to send, each further one the same bytes, and no other call writes.
-pub same-bytes : (line at : ℕ) → isLine line ≡ true → (calls : List Call) → Sent [] (started line at) calls
+pub same-bytes : SameBytes
 same-bytes line at h calls = all-sent [] (started line at) (start-ranged line at h) (λ q. clash (sym q)) calls

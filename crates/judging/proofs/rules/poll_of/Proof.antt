@@ -1,23 +1,27 @@
--- `judging::rules::poll_of` tests the line as its definition does. Assumes nothing.
+-- `judging::rules::poll_of` polls as the row of the line says. Assumes nothing.
+use Rattle.judging.proofs.Types.{polls-with-r, polls-with-t}
 use borrow.Author.Needs.{needs}
-use Rattle.laws.proofs.Tests.{tests}
-use Rattle.judging.specs.Rules.{pollOf}
 use Rattle.judging.proofs.rules.poll_of.Statement.{statement}
 use Rattle.judging.proofs.rules.poll_of.Tie as tie
 
-cast-t4 : tie.Need-cast-t4
-cast-t4 c = search needs
+line-of-requires : tie.Need-line-of-requires
+line-of-requires c κs = search needs
 
-cast-t5 : tie.Need-cast-t5
-cast-t5 c = search needs
+data-type-requires : tie.Need-data-type-requires
+data-type-requires c κs = search needs
+
+cast-t6 : tie.Need-cast-t6
+cast-t6 c = search needs
+
+cast-t7 : tie.Need-cast-t7
+cast-t7 c = search needs
 
 returns : tie.Need-returns
-unfolding pollOf
-returns c = search tests
+returns c = polls-with-r (c .before .before .before .before .args .line) _ (c .before .before .before .line-of .ensures) (c .before .if1 .taken) _ (c .data-type .ensures)
 
 returns-2 : tie.Need-returns-2
-unfolding pollOf
-returns-2 c = search tests
+returns-2 c = polls-with-t (c .before .before .before .args .line) _ (c .before .before .line-of .ensures) (c .if1 .left)
 
 pub poll-of-spec : {M : Type 1} → statement M
-poll-of-spec = tie.close (tie.spec cast-t4 cast-t5 returns returns-2)
+poll-of-spec =
+    tie.close (tie.spec line-of-requires data-type-requires cast-t6 cast-t7 returns returns-2)

@@ -1,20 +1,21 @@
 -- `replying::fitting::key_fits` meets its contract. Assumes nothing.
-use Rattle.replying.specs.Fitting.{keyFits}
+use Rattle.replying.proofs.Keys.{fits-keyed, fits-plain}
+use mathlib.Core.Path.{_∙_}
 use borrow.Author.Needs.{needs}
-use borrow.Author.Tests.{eq-eqb, ne-eqb}
 use Rattle.replying.proofs.fitting.key_fits.Statement.{statement}
 use Rattle.replying.proofs.fitting.key_fits.Tie as tie
+
+line-of-requires : tie.Need-line-of-requires
+line-of-requires c κs = search needs
 
 is-key-requires : tie.Need-is-key-requires
 is-key-requires c κs = search needs
 
 returns : tie.Need-returns
-unfolding keyFits
-returns c = rw (eq-eqb _ _ (c .before .if1 .taken)) (c .is-key .ensures)
+returns c = let a = c .before .before .before .args in c .is-key .ensures ∙ fits-keyed (a .line) (a .key) _ (c .before .before .line-of .ensures) (c .before .if1 .taken)
 
 returns-2 : tie.Need-returns-2
-unfolding keyFits
-returns-2 c = rw (ne-eqb _ _ (c .if1 .left))
+returns-2 c = let a = c .before .before .args in fits-plain (a .line) (a .key) _ (c .before .line-of .ensures) (c .if1 .left)
 
 pub key-fits-spec : {M : Type 1} → statement M
-key-fits-spec = tie.close (tie.spec is-key-requires returns returns-2)
+key-fits-spec = tie.close (tie.spec line-of-requires is-key-requires returns returns-2)

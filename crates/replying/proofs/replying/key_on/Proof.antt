@@ -1,16 +1,17 @@
 -- `replying::replying::key_on` meets its contract. Assumes nothing.
-use Rattle.laws.proofs.Tests.{tests}
-use Rattle.replying.specs.Replying.{keyOn}
+use Rattle.replying.proofs.Keys.{on-keyed, on-plain}
+use borrow.Author.Needs.{needs}
 use Rattle.replying.proofs.replying.key_on.Statement.{statement}
 use Rattle.replying.proofs.replying.key_on.Tie as tie
 
+line-of-requires : tie.Need-line-of-requires
+line-of-requires c κs = search needs
+
 returns : tie.Need-returns
-unfolding keyOn
-returns c = search tests
+returns c = let a = c .before .before .args in on-keyed (a .line) (a .key) _ (c .before .line-of .ensures) (c .if1 .taken)
 
 returns-2 : tie.Need-returns-2
-unfolding keyOn
-returns-2 c = search tests
+returns-2 c = let a = c .before .before .args in on-plain (a .line) (a .key) _ (c .before .line-of .ensures) (c .if1 .left)
 
 pub key-on-spec : {M : Type 1} → statement M
-key-on-spec = tie.close (tie.spec returns returns-2)
+key-on-spec = tie.close (tie.spec line-of-requires returns returns-2)

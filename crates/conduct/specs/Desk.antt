@@ -1,0 +1,11 @@
+-- The desk under any calls (01 'Link rules', 'Desk'): what is proved of it. Assumes nothing.
+pub mod Calls
+pub mod Kept
+pub mod Refused
+pub mod Repeats
+pub mod Faults
+pub mod Stored
+pub mod Polls
+pub mod Once
+pub mod Timed
+pub mod Apart

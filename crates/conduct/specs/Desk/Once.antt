@@ -1,0 +1,71 @@
+-- Whatever calls are made, each record that was queued is given out once, in order, or still waits (01 'Link rules', 'Desk'). Assumes nothing.
+use mathlib.Core.Path.{_≡_}
+use mathlib.Core.Bool.{true}
+use mathlib.Core.List.{List, [], _∷_, _++_, map}
+use Prim.Native.Nat.{ℕ}
+use lib.ListN.{take}
+use Rattle.forms.specs.Lines.{isLine}
+use Rattle.records.specs.declared.records.Record.{Record}
+use Rattle.reading.specs.Answers as w
+use Rattle.reading.specs.Reading.{readingOf}
+use Rattle.replying.specs.Replying.{Origin, requested, queue, key, panel, contents, notMaster, nothingSet}
+use Rattle.desk.specs.Answers.{done, lost, silent, fault, repeat, handled}
+use Rattle.desk.specs.Answers as h
+use Rattle.desk.specs.State.{startOf}
+use Rattle.desk.specs.declared.state.Waiting.{Waiting}
+use Rattle.desk.specs.declared.state.Desk.{Desk}
+use Rattle.conduct.specs.Desk.Calls.{Call, ticks, queues, sets, turns, hears, Answered, did, heard, after, run}
+use Rattle.conduct.specs.Desk.Polls.{waiting}
+
+-- the records that wait, the oldest first
+abbrev pub records : Desk → List Record
+records d = map (λ (s : Waiting). s .rec) (waiting d)
+
+-- the record that a queueing brought, where it was done
+abbrev pub queuedIn : Call → Answered → List Record
+queuedIn (ticks at) answer = []
+queuedIn (queues rec) (did done) = rec ∷ []
+queuedIn (queues rec) (did lost) = []
+queuedIn (queues rec) (did (h.refused x)) = []
+queuedIn (queues rec) (heard told out) = []
+queuedIn (sets rec) answer = []
+queuedIn (turns position) answer = []
+queuedIn (hears at frame out) answer = []
+
+-- the record that bytes read as
+abbrev pub readIn : w.Answer → List Record
+readIn (w.accepted rec n) = rec ∷ []
+readIn (w.refused x) = []
+
+-- the record that an answer from the queue reads as on the line
+abbrev pub givenBy : ℕ → Origin → List ℕ → List Record
+givenBy line requested bytes = []
+givenBy line queue bytes = readIn (readingOf line bytes)
+givenBy line (key b) bytes = []
+givenBy line (panel a rec) bytes = []
+givenBy line (contents a x) bytes = []
+givenBy line (notMaster a) bytes = []
+givenBy line (nothingSet a) bytes = []
+
+abbrev pub givenIn : ℕ → Answered → List Record
+givenIn line (did x) = []
+givenIn line (heard (h.refused x) out) = []
+givenIn line (heard (silent noting x) out) = []
+givenIn line (heard (fault noting value n) out) = []
+givenIn line (heard (repeat n) out) = []
+givenIn line (heard (handled noting origin n) out) = givenBy line origin (take n out)
+
+-- the records that calls queued, and those that they gave out from the queue, in order
+abbrev pub accepted : Desk → List Call → List Record
+accepted d [] = []
+accepted d (call ∷ calls) = queuedIn call (after d call .1) ++ accepted (after d call .0) calls
+
+abbrev pub given : Desk → List Call → List Record
+given d [] = []
+given d (call ∷ calls) = givenIn (d .line) (after d call .1) ++ given (after d call .0) calls
+
+-- from the start, the records given out, then those that still wait, are the records queued, each once and in order
+abbrev pub QueuedOnce : Type 0
+QueuedOnce =
+    (line : ℕ) → isLine line ≡ true → (calls : List Call)
+    → given (startOf line .0) calls ++ records (run (startOf line .0) calls) ≡ accepted (startOf line .0) calls

@@ -1,0 +1,8 @@
+-- The master under any calls (01 'Link rules', 'Master'): what is proved of it. Assumes nothing.
+pub mod Calls
+pub mod Kept
+pub mod Counts
+pub mod Same
+pub mod Ended
+pub mod Timed
+pub mod Apart

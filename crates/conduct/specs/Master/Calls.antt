@@ -1,0 +1,45 @@
+-- Calls of the master in any order, with any inputs (01 'Link rules'). Assumes nothing.
+use mathlib.Core.Bool.{Bool, true, false}
+use mathlib.Core.List.{List, [], _∷_}
+use Prim.Native.Nat.{ℕ}
+use Rattle.records.specs.declared.records.Record.{Record}
+use Rattle.judging.specs.Rules.{pollOf}
+use Rattle.master.specs.declared.state.Master.{Master}
+use Rattle.master.specs.declared.answers.Sending.{Sending}
+use Rattle.master.specs.declared.answers.Sending.the-variants.{Offered, Poll}
+use Rattle.master.specs.declared.answers.Cause.{Cause}
+use Rattle.master.specs.declared.answers.Cause.the-variants.{Silence, Rejected}
+use Rattle.master.specs.Sending.{Behind, offerOf, tickOf}
+use Rattle.master.specs.Hearing.{hearOf}
+
+-- a call: its time, what it brings, and the output that it may fill
+pub data Call : Type 0 where
+  offers : ℕ → Record → List ℕ → Call
+  ticks : ℕ → List ℕ → Call
+  hears : ℕ → List ℕ → List ℕ → Call
+
+abbrev pub outputOf : Call → List ℕ
+outputOf (offers at rec out) = out
+outputOf (ticks at out) = out
+outputOf (hears at frame out) = out
+
+-- what a call makes of the state
+abbrev pub after : Master → Call → Behind
+after m (offers at rec out) = offerOf m at rec out
+after m (ticks at out) = tickOf m at out
+after m (hears at frame out) = hearOf m at frame out
+
+-- a state behind calls, one after the other
+abbrev pub run : Master → List Call → Master
+run m [] = m
+run m (call ∷ calls) = run (after m call .0) calls
+
+-- the first sending of a telegram: of the offered record, or of the poll
+pub data First (m : Master) : Call → Sending → Record → Type 0 where
+  offered : {at : ℕ} {rec : Record} {out : List ℕ} → First m (offers at rec out) Offered rec
+  polled : {at : ℕ} {out : List ℕ} → First m (ticks at out) Poll (pollOf (m .line))
+
+-- giving up by silence notes the line lost; by N it stays good
+abbrev pub lineAfter : Cause → Bool
+lineAfter Silence = false
+lineAfter Rejected = true

@@ -1,0 +1,56 @@
+-- A sending is the telegram of the offered record, or of the poll, with the number to send, and the same bytes each time until it ends
+-- (01 'Link rules'). Assumes nothing.
+use mathlib.Core.Path.{_≡_}
+use mathlib.Core.Bool.{true}
+use mathlib.Core.List.{List, [], _∷_}
+use Prim.Native.Nat.{ℕ}
+use lib.ListN.{take, drop}
+use Rattle.forms.specs.Lines.{isLine}
+use Rattle.records.specs.declared.records.Record.{Record}
+use Rattle.writing.specs.Writing.{telegramOf}
+use Rattle.master.specs.declared.state.Master.{Master}
+use Rattle.master.specs.declared.answers.Sending.{Sending}
+use Rattle.master.specs.declared.answers.Sending.the-variants.{Again}
+use Rattle.master.specs.Answers.{Told, nothing, sent, answered, otherKind, givenUp, ignored}
+use Rattle.master.specs.Answers as t
+use Rattle.master.specs.State.{started}
+use Rattle.conduct.specs.Master.Calls.{Call, outputOf, after, First}
+
+-- the bytes of a sending, where held are those of the sending before it
+pub data Right (held : List ℕ) (m : Master) (call : Call) (sending : Sending) (bytes : List ℕ) : Type 0 where
+  -- a first sending: the telegram of the offered record or of the poll, with the number to send
+  first : {rec : Record} → First m call sending rec → bytes ≡ telegramOf (m .line) rec (m .number .0) → Right held m call sending bytes
+  -- again: the same bytes
+  same : sending ≡ Again → bytes ≡ held → Right held m call sending bytes
+
+-- what a call leaves in the output: a sending fills its front and keeps the bytes behind it; a call that sends nothing writes nothing
+abbrev pub Leaves : List ℕ → Master → Call → Told → List ℕ → Type 0
+Leaves held m call (t.refused x) new = new ≡ outputOf call
+Leaves held m call nothing new = new ≡ outputOf call
+Leaves held m call (sent sending count n) new = Right held m call sending (take n new) × (drop n new ≡ drop n (outputOf call))
+Leaves held m call (answered rec count) new = new ≡ outputOf call
+Leaves held m call (otherKind answer count) new = new ≡ outputOf call
+Leaves held m call (givenUp cause count) new = new ≡ outputOf call
+Leaves held m call (ignored why) new = new ≡ outputOf call
+
+-- the bytes of the last sending, behind one more answer
+abbrev pub lastSent : List ℕ → Told → List ℕ → List ℕ
+lastSent held (t.refused x) new = held
+lastSent held nothing new = held
+lastSent held (sent sending count n) new = take n new
+lastSent held (answered rec count) new = held
+lastSent held (otherKind answer count) new = held
+lastSent held (givenUp cause count) new = held
+lastSent held (ignored why) new = held
+
+-- each call of a run leaves that in its output
+abbrev pub Sent : List ℕ → Master → List Call → Type 0
+Sent held m [] = Unit {0}
+Sent held m (call ∷ calls) =
+    Leaves held m call (after m call .1 .0) (after m call .1 .1)
+    × Sent (lastSent held (after m call .1 .0) (after m call .1 .1)) (after m call .0) calls
+
+-- whatever calls are made from the start, each first sending is the telegram of the offered record or of the poll with the number to send,
+-- each further one the same bytes, and no other call writes
+abbrev pub SameBytes : Type 0
+SameBytes = (line at : ℕ) → isLine line ≡ true → (calls : List Call) → Sent [] (started line at) calls
