@@ -26,8 +26,8 @@ abbrev pub after : Slot → List ℕ → List ℕ
 after p d = drop (1 + p .len) d
 
 -- the characters of the packet that d begins with
-abbrev pub valueText : Slot → List ℕ → List ℕ
-valueText p d = take (p .len) (drop 1 d)
+abbrev pub packetValue : Slot → List ℕ → List ℕ
+packetValue p d = take (p .len) (drop 1 d)
 
 -- the first byte outside the set
 unfoldable pub outside : ℕ → List ℕ → Spot
@@ -42,13 +42,13 @@ wrongLetter at (p ∷ ps) d = cond (eqb (getD d 0 0) (p .letter)) (wrongLetter (
 -- the letter of the first packet whose value is not permitted
 unfoldable pub badValue : ℕ → ℕ → ℕ → List Slot → List ℕ → Spot
 badValue line kind at [] d = Nowhere
-badValue line kind at (p ∷ ps) d = cond (permitted line kind (p .letter) (valueText p d)) (badValue line kind (behind p at) ps (after p d)) (At at)
+badValue line kind at (p ∷ ps) d = cond (permitted line kind (p .letter) (packetValue p d)) (badValue line kind (behind p at) ps (after p d)) (At at)
 
 -- the packets' values, with 0 in the places behind them, n in all
 unfoldable pub valuesIn : ℕ → List Slot → List ℕ → List ℕ
 valuesIn zero ps d = []
 valuesIn (suc n) [] d = 0 ∷ valuesIn n [] d
-valuesIn (suc n) (p ∷ ps) d = valueOf (p .letter) (valueText p d) ∷ valuesIn n ps (after p d)
+valuesIn (suc n) (p ∷ ps) d = valueOf (p .letter) (packetValue p d) ∷ valuesIn n ps (after p d)
 
 -- data field of another length (place 5), or a packet letter wrong
 unfoldable pub misshapen : Form → List ℕ → Spot

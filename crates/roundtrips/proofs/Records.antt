@@ -15,7 +15,7 @@ use Rattle.forms.specs.Lines.{isLine}
 use Rattle.forms.specs.Forms.{Slot, forms, formOf, slotsIn, countOf, slotsOf}
 use Rattle.packets.specs.Packets.{leadOf, isDecimal, permits}
 use Rattle.records.specs.Records.{typeOf, letterOf, paired, radioValues, fieldsOf, valuesOf, radioOf, recordOf}
-use Rattle.values.specs.Values.{rowOf, narrow, textOf, valueOf, bodyOf, permittedFrom, permitsValue, permitsValues, permitsRecord}
+use Rattle.values.specs.Values.{rowOf, narrow, textOf, valueOf, numberWidth, permittedFrom, permitsValue, permitsValues, permitsRecord}
 use Rattle.records.specs.declared.records.Radio.{Radio}
 use Rattle.records.specs.declared.records.Record.{Record}
 use Rattle.records.specs.declared.records.Record.the-variants.{Approved, Rejected, Request, Idling, Test, Stop, RadioFault, Fault, Position, Train, TrainData, RadioData, RadioUpdate, Transponder}
@@ -27,7 +27,7 @@ use Rattle.roundtrips.proofs.Fields.{first-value, more-values}
 
 -- no V is 0
 no-watch : (line kind : ℕ) → permitsValue line kind (code "V") 3 0 ≡ false
-unfolding numeralOn leftOf leadOf isDecimal permits textOf bodyOf permittedFrom permitsValue
+unfolding numeralOn leftOf leadOf isDecimal permits textOf numberWidth permittedFrom permitsValue
 no-watch line kind = refl
 
 -- a choice that is not 0 passed both of its tests

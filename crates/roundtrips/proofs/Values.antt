@@ -16,7 +16,7 @@ use Rattle.laws.proofs.Digits.{AllDigits, number-numeral, numeral-number, nothi
 use Rattle.characters.specs.Characters.{inSet}
 use Rattle.forms.specs.Lines.{isLine}
 use Rattle.packets.specs.Packets.{leadOf, isDecimal, permits}
-use Rattle.values.specs.Values.{led, narrow, textOf, valueOf, bodyOf, permittedFrom, numberFits, permitted, permitsValue}
+use Rattle.values.specs.Values.{led, narrow, textOf, valueOf, numberWidth, permittedFrom, numberFits, permitted, permitsValue}
 use Rattle.roundtrips.proofs.Bytes.{leads, permits-set, permits-lead, permits-digit}
 
 -- the w characters of a number, where t says that no lead stands in front
@@ -111,8 +111,8 @@ module _ (line kind letter : ℕ) (l : isLine line ≡ true) where
     value-text = rw s (number-spell (eqb (leadOf letter) 0) (leadOf letter) (isDecimal letter) text (permitted-spelt text h))
 
     -- nothing is left of their number
-    nothing : leftOf (isDecimal letter) (bodyOf letter (length text)) (valueOf letter text) ≡ 0
-    unfolding bodyOf valueOf
+    nothing : leftOf (isDecimal letter) (numberWidth letter (length text)) (valueOf letter text) ≡ 0
+    unfolding numberWidth valueOf
     nothing = rw s (number-left (eqb (leadOf letter) 0) (leadOf letter) (isDecimal letter) text (permitted-spelt text h))
 
     -- so their number is permitted
@@ -127,7 +127,7 @@ module _ (line kind letter : ℕ) (l : isLine line ≡ true) where
 module _ (line kind letter w n : ℕ) (s : narrow letter w ≡ true) (h : permitsValue line kind letter w n ≡ true) where
   -- a permitted number's characters say the number
   pub text-value : valueOf letter (textOf letter w n) ≡ n
-  unfolding permitsValue textOf valueOf bodyOf
+  unfolding permitsValue textOf valueOf numberWidth
   text-value =
       rw (text-length letter w n, s) (spell-number (eqb (leadOf letter) 0) (leadOf letter) (isDecimal letter) w n (eqb-true _ _ (both-left _ _ h)))
 
@@ -135,7 +135,7 @@ module _ (line kind letter w n : ℕ) (s : narrow letter w ≡ true) (h : permit
   pub text-permitted : permitted line kind letter (textOf letter w n) ≡ true
   unfolding permitsValue permitted
   text-permitted =
-      let k = both-right (eqb (leftOf (isDecimal letter) (bodyOf letter w) n) 0) _ h in
+      let k = both-right (eqb (leftOf (isDecimal letter) (numberWidth letter w) n) 0) _ h in
       let t = textOf letter w n in
       both-true (permittedFrom line kind letter 0 t) (numberFits line letter (length t) (valueOf letter t))
       (both-left _ _ k) (rw (text-length letter w n, text-value) (both-right (permittedFrom line kind letter 0 t) _ k))

@@ -30,8 +30,8 @@ unfoldable pub valueOf : ℕ → List ℕ → ℕ
 valueOf letter text = cond (narrow letter (length text)) (numberOn (isDecimal letter) 0 (cond (eqb (leadOf letter) 0) text (drop 1 text))) 0
 
 -- how many characters of w are the number's
-unfoldable pub bodyOf : ℕ → ℕ → ℕ
-bodyOf letter w = cond (eqb (leadOf letter) 0) w (w - 1)
+unfoldable pub numberWidth : ℕ → ℕ → ℕ
+numberWidth letter w = cond (eqb (leadOf letter) 0) w (w - 1)
 
 -- a packet in w bytes: its letter, and then its value
 abbrev pub packetText : ℕ → ℕ → ℕ → List ℕ
@@ -54,7 +54,7 @@ permitted line kind letter text = both (permittedFrom line kind letter 0 text) (
 -- a number is permitted as a value of w characters when it has no more digits, its characters are permitted, and it is
 unfoldable pub permitsValue : ℕ → ℕ → ℕ → ℕ → ℕ → Bool
 permitsValue line kind letter w n =
-    both (eqb (leftOf (isDecimal letter) (bodyOf letter w) n) 0)
+    both (eqb (leftOf (isDecimal letter) (numberWidth letter w) n) 0)
     (both (permittedFrom line kind letter 0 (textOf letter w n)) (numberFits line letter w n))
 
 -- each packet's value is permitted

@@ -5,7 +5,7 @@ ghost use lib.ListN.{length};
 ghost use Rattle.laws.specs.Numerals.{numeral};
 ghost use Rattle.forms.specs.Forms.{slotsOf};
 ghost use Rattle.packets.specs.Packets.{isDecimal};
-ghost use Rattle.values.specs.Values.{textOf, packetText, bodyOf, narrow, valueOf, permittedFrom, numberFits, permitted, permitsValue, permitsValues, permitsRecord, lengthOf};
+ghost use Rattle.values.specs.Values.{textOf, packetText, numberWidth, narrow, valueOf, permittedFrom, numberFits, permitted, permitsValue, permitsValues, permitsRecord, lengthOf};
 use crate::numbers::left_of;
 use crate::numbers::low_digit;
 use crate::numbers::number_said;
@@ -27,8 +27,8 @@ use records::records::type_of;
 use records::records::values_of;
 
 // How many characters of a value of w are its number's.
-fn body_of(letter: u8, w: usize) -> usize
-    ensures { λ r. ⌜ r ≡ bodyOf letter w ⌝ }
+fn number_width(letter: u8, w: usize) -> usize
+    ensures { λ r. ⌜ r ≡ numberWidth letter w ⌝ }
 {
     if lead_of(letter) == 0 {
         return w;
@@ -169,7 +169,7 @@ pub fn permits_value(line: u8, kind: u8, letter: u8, len: u8, n: u32) -> bool
     ensures { λ r. ⌜ r ≡ permitsValue line kind letter len n ⌝ }
 {
     let w = len as usize;
-    if left_of(is_decimal(letter), body_of(letter, w), n) != 0 {
+    if left_of(is_decimal(letter), number_width(letter, w), n) != 0 {
         return false;
     }
     if !permits_spelt(line, kind, letter, w, n) {

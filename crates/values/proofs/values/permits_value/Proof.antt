@@ -9,15 +9,15 @@ use Rattle.values.proofs.values.permits_value.Tie as tie
 is-decimal-requires : tie.Need-is-decimal-requires
 is-decimal-requires c κs = search needs
 
-body-of-requires : tie.Need-body-of-requires
-body-of-requires c κs = search needs
+number-width-requires : tie.Need-number-width-requires
+number-width-requires c κs = search needs
 
 left-of-requires : tie.Need-left-of-requires
 left-of-requires c κs = search needs
 
 returns : tie.Need-returns
 unfolding permitsValue
-returns c = rw (← (c .before .before .before .is-decimal .ensures), ← (c .before .before .body-of .ensures), ← (c .before .left-of .ensures), ne-eqb _ _ (c .if1 .taken))
+returns c = rw (← (c .before .before .before .is-decimal .ensures), ← (c .before .before .number-width .ensures), ← (c .before .left-of .ensures), ne-eqb _ _ (c .if1 .taken))
 
 permits-spelt-requires : tie.Need-permits-spelt-requires
 permits-spelt-requires c κs = search needs
@@ -28,7 +28,7 @@ returns-2 c =
     let l = c .before .before .before in let s = c .before .permits-spelt in
     rw (
       ← (l .before .before .is-decimal .ensures),
-      ← (l .before .body-of .ensures),
+      ← (l .before .number-width .ensures),
       ← (l .left-of .ensures),
       eq-eqb _ _ (c .before .before .if1 .left),
       ← (s .ensures),
@@ -44,7 +44,7 @@ returns-3 c =
     let l = c .before .before .before .before in let s = c .before .before .permits-spelt in
     rw (
       ← (l .before .before .is-decimal .ensures),
-      ← (l .before .body-of .ensures),
+      ← (l .before .number-width .ensures),
       ← (l .left-of .ensures),
       eq-eqb _ _ (c .before .before .before .if1 .left),
       ← (s .ensures),
@@ -56,7 +56,7 @@ permits-value-spec =
     tie.close
     (tie.spec
     is-decimal-requires
-    body-of-requires
+    number-width-requires
     left-of-requires
     returns
     permits-spelt-requires
