@@ -16,7 +16,7 @@ use Rattle.records.specs.Records.{recordOf}
 use Rattle.records.specs.declared.records.Record.the-variants.{Idling, Position, Stop, Train}
 use Rattle.forms.specs.Lines.{lineOf}
 use Rattle.packets.specs.Packets.{leadOf, isDecimal, permits, ruled, permitsNumber}
-use Rattle.values.specs.Values.{permitsRecord, textOf, narrow, valueOf, bodyOf, permittedFrom, numberFits, permitted, permitsValue, permitsValues}
+use Rattle.values.specs.Values.{permitsRecord, textOf, narrow, valueOf, numberWidth, permittedFrom, numberFits, permitted, permitsValue, permitsValues}
 use Rattle.characters.specs.Marks.{lf, cr, longest}
 use Rattle.reading.specs.Frame.{countText, summedOf, fieldOf, frameOf, frameChecks}
 use Rattle.reading.specs.Frame as f
@@ -158,7 +158,7 @@ lateAnswer = ours 2 .mhear (masterOf (run (start (ours 2) 0 []) keptLonger)) 207
 pub runs : (ran (ours 3) 0 [] usual ≡ usualHistory) × (ran (ours 2) 0 [] polled ≡ polledHistory) × (ran (ours 2) 0 [] stale ≡ staleHistory)
     × (ran (ours 2) 0 [] twice ≡ twiceHistory) × (ran (ours 2) 0 [] later ≡ laterHistory) × (ran (ours 2) 0 [] cramped ≡ crampedHistory)
     × (lateSending ≡ handles (telegram "08t0Bt3E") (telegram "08A0AAA5")) × (lateAnswer ≡ got (telegram "08A0AAA5") 1)
-unfolding numeralOn numberOn leftOf inSet total checksumOf checkText lineOf forms onLine lookIn typeRow formOf dataType slotsIn countOf slotsOf widthIn widthOf recordOf leadOf isDecimal permits ruled permitsNumber permitsRecord textOf narrow valueOf bodyOf permittedFrom numberFits permitted permitsValue permitsValues countText summedOf fieldOf frameOf f.bodyOf frameChecks dataOf outside wrongLetter badValue valuesIn misshapen fieldChecks recordIn checks readingOf telegramOf runOut sendable inRanges callFault startOf t0Limit pollOf isFailure answersTo permittedAnswer answeredBy judgeOf sentOf sendingOf failedOf offerFault offerOf pollingOf waitingOf tickOf hearOf u.mayReply u.keyFits s.keptFits u.wantedFits s.numbersFit s.recordsFit s.inRanges s.startOf p.losesLine p.notedOf p.tickOf p.recordFault p.queueOf p.setOf p.keyFault p.keyOf r.repeats r.matterIn r.goodFrame r.badFrame r.rulingIn q.keyOn q.polledOf h.faultedOf h.repeatedOf h.handledOf h.heardOf h.hearOf
+unfolding numeralOn numberOn leftOf inSet total checksumOf checkText lineOf forms onLine lookIn typeRow formOf dataType slotsIn countOf slotsOf widthIn widthOf recordOf leadOf isDecimal permits ruled permitsNumber permitsRecord textOf narrow valueOf numberWidth permittedFrom numberFits permitted permitsValue permitsValues countText summedOf fieldOf frameOf f.numberWidth frameChecks dataOf outside wrongLetter badValue valuesIn misshapen fieldChecks recordIn checks readingOf telegramOf runOut sendable inRanges callFault startOf t0Limit pollOf isFailure answersTo permittedAnswer answeredBy judgeOf sentOf sendingOf failedOf offerFault offerOf pollingOf waitingOf tickOf hearOf u.mayReply u.keyFits s.keptFits u.wantedFits s.numbersFit s.recordsFit s.inRanges s.startOf p.losesLine p.notedOf p.tickOf p.recordFault p.queueOf p.setOf p.keyFault p.keyOf r.repeats r.matterIn r.goodFrame r.badFrame r.rulingIn q.keyOn q.polledOf h.faultedOf h.repeatedOf h.handledOf h.heardOf h.hearOf
 runs = (refl, refl, refl, refl, refl, refl, refl, refl)
 
 -- The supposition holds of the first three, and so does the promise.
