@@ -1,4 +1,4 @@
--- Stands in until records passes these on. Assumes nothing.
+-- A refusal comes back from its number and place. Assumes nothing.
 use mathlib.Core.Path.{_≡_, refl}
 use mathlib.Core.Bool.{cond}
 use lib.Dec.{eqb}

@@ -17,6 +17,7 @@ use Rattle.reading.specs.declared.answers.Spot.the-variants.{Nowhere, At}
 use Rattle.records.specs.Refusals.{No, no}
 use Rattle.deciding.proofs.Numbers.{refusing}
 use Rattle.demand3.specs.Ours.{isFault, isRefused}
+use Rattle.demand3.specs.Theorems.{SpoiltRefused, RefusedSpoilt}
 
 -- the number of a refusal that is known
 numbered : (k place : ℕ) (x : No) → fails (no k place) ≡ fails x → k ≡ x .number
@@ -37,10 +38,9 @@ behind k x (Nowhere ∷ xs) ys h e = let r = behind (k + 1) x xs ys h e in omega
 behind k x (At spot ∷ xs) ys h e = clash (cc)
 
 module _ (line : ℕ) (bytes : List ℕ) where
-  -- What checks 1 to 7 refuse, reading refuses with a number of 1 to 7,
-  pub spoilt-refused : isLine line ≡ true → isRefused bytes ≡ true → (x : No) × (readingOf line bytes ≡ refused x) × (x .number ≤ 7)
+  as-refused : isLine line ≡ true → isRefused bytes ≡ true → (x : No) × (readingOf line bytes ≡ refused x) × (x .number ≤ 7)
   unfolding readingOf checks
-  spoilt-refused h r = go (firstFault 1 (frameChecks bytes)) refl r
+  as-refused h r = go (firstFault 1 (frameChecks bytes)) refl r
     where
       go : (f : Fault) → firstFault 1 (frameChecks bytes) ≡ f → isFault f ≡ true → (x : No) × (readingOf line bytes ≡ refused x) × (x .number ≤ 7)
       go good e q = clash q
@@ -49,10 +49,9 @@ module _ (line : ℕ) (bytes : List ℕ) where
           let l : length (frameChecks bytes) ≡ 7 = unfold frameChecks in refl in
           (x, rw (h, p .0) refl, omega (arith, p .1, l))
 
-  -- and what reading so refuses, they refuse.
-  pub refused-spoilt : (x : No) → readingOf line bytes ≡ refused x → x .number ≤ 7 → isRefused bytes ≡ true
+  as-spoilt : (x : No) → readingOf line bytes ≡ refused x → x .number ≤ 7 → isRefused bytes ≡ true
   unfolding readingOf checks
-  refused-spoilt x h l = go (firstFault 1 (frameChecks bytes)) refl
+  as-spoilt x h l = go (firstFault 1 (frameChecks bytes)) refl
     where
       go : (f : Fault) → firstFault 1 (frameChecks bytes) ≡ f → isFault f ≡ true
       go (fails y) e = refl
@@ -61,3 +60,9 @@ module _ (line : ℕ) (bytes : List ℕ) where
           let b = behind 1 x (frameChecks bytes) (fieldChecks line bytes) e r in
           let k : length (frameChecks bytes) ≡ 7 = unfold frameChecks in refl in
           absurd (omega (arith, b, k))
+
+pub spoilt-refused : SpoiltRefused
+spoilt-refused line bytes h r = as-refused line bytes h r
+
+pub refused-spoilt : RefusedSpoilt
+refused-spoilt line bytes x h l = as-spoilt line bytes x h l

@@ -4,7 +4,8 @@ use mathlib.Core.Bool.{true}
 use mathlib.Core.List.{List, []}
 use Prim.Native.Nat.{ℕ}
 use Rattle.forms.specs.Lines.{isLine}
-use Rattle.demand3.specs.Demand.{NoLostInside, Promise, Reported, Spoken}
+use Rattle.demand3.specs.Demand.{NoLostInside}
+use Rattle.demand3.specs.Theorems.{Demand3, Reports}
 use Rattle.demand3.specs.Ends.{Ev, ran}
 use Rattle.demand3.specs.Ours.{ours, FromMaster, FromSlave}
 use Rattle.demand3.proofs.Stepwise.{Held, held-of, of-held}
@@ -42,18 +43,9 @@ module _ (line : ℕ) (h : isLine line ≡ true) where
     pub stepwise : (NoLostInside (ran (ours line) at [] events) → Held (ran (ours line) at [] events)) × (Held (ran (ours line) at [] events) → NoLostInside (ran (ours line) at [] events))
     stepwise = (held-of (ran (ours line) at [] events), of-held (ran (ours line) at [] events))
 
-    -- Demand 3, on line 1, 2 or 3, from any start time, over any events: offers of any record, ticks, calls of the panel, each with any values,
-    -- and any room, so refused calls too. It says more than the demand asks: a sending and an answer may arrive when T2 has run out; a
-    -- sending or an answer may be replaced by the next sending with neither lost nor arrival; the times are any numbers in any order, so a
-    -- clock may go back, stand still or go wrong; and a telegram answered after a giving up, but for the first, got the answer made for it.
-    -- `Runs` has the shortest run that shows each reading near by to be false: one without the exception for the first answered since a giving
-    -- up (`stale`), a supposition that allows the note in the hearing call itself (`twice`) or looks only at the sendings made so far
-    -- (`later`), and a line where a sending or an answer may arrive after the master stopped waiting on it (`lateSending`, `lateAnswer`).
-    pub demand3 : NoLostInside (ran (ours line) at [] events) → Promise (ran (ours line) at [] events)
-    demand3 k = kept-stepwise (ours line) our-laws at [] events (stepwise .0 k)
+pub demand3 : Demand3
+demand3 line h at events k = kept-stepwise (ours line) (our-laws line h) at [] events (stepwise line h at events .0 k)
 
-    -- Whatever is supposed, the count of each report is the sendings made of its telegram, each telegram sent reads as a record that the
-    -- master sends on the line, and each answer made or got as one that the slave sends.
-    pub reports : Reported (ran (ours line) at [] events) × Spoken (FromMaster line) (FromSlave line) (ran (ours line) at [] events)
-    unfolding our-laws
-    reports = kept-always (ours line) our-laws at [] events
+pub reports : Reports
+unfolding our-laws
+reports line h at events = kept-always (ours line) (our-laws line h) at [] events

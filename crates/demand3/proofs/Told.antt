@@ -16,21 +16,11 @@ use Rattle.clock.specs.Counters.{sameNumber, numberIn}
 use Rattle.judging.specs.Rules.{isFailure, permittedAnswer}
 use Rattle.judging.specs.Judging.{Judged, answeredBy, takenOf, unlessBad, judgeOf}
 use Rattle.judging.specs.Judging as j
-use Rattle.master.specs.Answers.{Told, refused, nothing, sent, answered, otherKind, givenUp, ignored}
+use Rattle.demand3.specs.Theorems.{Tells, Telling}
 use Rattle.master.specs.State.{isFree, callFault}
 use Rattle.master.specs.Sending.{Behind, t2Limit, unlessRefused, sendingOf, failedOf}
 use Rattle.master.specs.Hearing.{settledOf, judged, hearOf}
 use Rattle.master.specs.declared.state.Master.{Master}
-
--- a report of an answer, permitted or of another kind, is the reading of these bytes
-abbrev pub Tells : ℕ → List ℕ → Told → Type 0
-Tells line bytes (refused x) = Unit {0}
-Tells line bytes nothing = Unit {0}
-Tells line bytes (sent sending count n) = Unit {0}
-Tells line bytes (answered rec count) = (number : ℕ) × (readingOf line bytes ≡ accepted rec number)
-Tells line bytes (otherKind answer count) = readingOf line bytes ≡ answer
-Tells line bytes (givenUp cause count) = Unit {0}
-Tells line bytes (ignored why) = Unit {0}
 
 module _ (line : ℕ) (bytes : List ℕ) where
   record Right (turn : Behind) : Type 0 where
@@ -92,6 +82,5 @@ module _ (m : Master) (at : ℕ) (bytes out : List ℕ) where
       (split (m .line) bytes (runOut at (m .t2) t2Limit) (record { told = tt })
       (settled (m .line) bytes m at (judged m bytes) out (frame-reads (m .line) bytes (m .number .0) (typeOf (m .rec))))))
 
-  -- Whatever the master hears.
-  pub tells : Tells (m .line) bytes (hearOf m at bytes out .1 .0)
-  tells = heard .told
+pub tells : Telling
+tells m at bytes out = heard m at bytes out .told

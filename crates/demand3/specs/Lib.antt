@@ -3,3 +3,5 @@ pub mod Demand
 pub mod Ends
 pub mod Rules
 pub mod Ours
+pub mod Runs
+pub mod Theorems
