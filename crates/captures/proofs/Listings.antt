@@ -93,7 +93,8 @@ module _ (line ordinal base : ℕ) (s : List ℕ) (place : ℕ) (out : List ℕ)
       room b q = first-line line ordinal base s place out filled start end h ∙ rw (← left-length, q)
 
       go : (b : Bool) → leb lineRoom (length left) ≡ b
-          → Told (nextFor end (cond {A = Write} b (written (length t), t ++ drop (length t) left) (refused (no 14 0), left) .0)) (cond {A = Write} b (written (length t), t ++ drop (length t) left) (refused (no 14 0), left) .1)
+          → Told (nextFor end (cond {A = Write} b (written (length t), t ++ drop (length t) left) (refused (no 14 0), left) .0))
+          (cond {A = Write} b (written (length t), t ++ drop (length t) left) (refused (no 14 0), left) .1)
       go true q =
           let w = found-within s place start end h in (
             omega arith,

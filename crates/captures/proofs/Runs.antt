@@ -24,12 +24,15 @@ module _ (line : ℕ) where
       nothing-behind (linesOf line ordinal base s 0) _
       (rw (append-nil s, append-nil (drop (keptOf s) s)) at (in-two s [] line ordinal base 0 (omega arith)))
 
-  onwards : (pieces : List (List ℕ)) (ordinal base : ℕ) (kept : List ℕ) → linesOf line ordinal base kept 0 ≡ [] → runOf line ordinal base kept pieces ≡ linesOf line ordinal base (kept ++ joined pieces) 0
+  onwards : (pieces : List (List ℕ)) (ordinal base : ℕ) (kept : List ℕ) → linesOf line ordinal base kept 0 ≡ []
+      → runOf line ordinal base kept pieces ≡ linesOf line ordinal base (kept ++ joined pieces) 0
   unfolding runOf
   onwards [] ordinal base kept h = rw (append-nil kept) (sym h)
   onwards (piece ∷ pieces) ordinal base kept h =
       let s = kept ++ piece in
-      let later = onwards pieces (nextOrdinal ordinal (spansOf (kept ++ piece) 0)) (wrapped (base + keptOf (kept ++ piece))) (drop (keptOf (kept ++ piece)) (kept ++ piece)) (kept-none ordinal base (kept ++ piece)) in
+      let later =
+      onwards pieces (nextOrdinal ordinal (spansOf (kept ++ piece) 0)) (wrapped (base + keptOf (kept ++ piece)))
+      (drop (keptOf (kept ++ piece)) (kept ++ piece)) (kept-none ordinal base (kept ++ piece)) in
       ap (λ (t : List ℕ). linesOf line ordinal base (kept ++ piece) 0 ++ t) later
       ∙ sym (in-two (kept ++ piece) (joined pieces) line ordinal base 0 (omega arith))
       ∙ ap (λ (t : List ℕ). linesOf line ordinal base t 0) (append-assoc kept piece (joined pieces))

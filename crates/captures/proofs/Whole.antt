@@ -74,7 +74,8 @@ module _ (a b : List ℕ) where
         rw (drop-append-le o a b l, take-append-le (e - o) (drop o a) b k)
 
     -- one telegram's line, and those of the telegrams behind it
-    lines-found : (s : List ℕ) (ordinal base place o e : ℕ) → spanOf s place ≡ Found o e → linesOf line ordinal base s place ≡ lineAt line ordinal base s (o, e) ++ linesOf line (wrapped (ordinal + 1)) base s e
+    lines-found : (s : List ℕ) (ordinal base place o e : ℕ) → spanOf s place ≡ Found o e
+        → linesOf line ordinal base s place ≡ lineAt line ordinal base s (o, e) ++ linesOf line (wrapped (ordinal + 1)) base s e
     unfolding linesOf linesIn
     lines-found s ordinal base place o e h = rw (spans-step s place, h)
 

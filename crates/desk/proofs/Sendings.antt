@@ -48,7 +48,19 @@ module _ (line : ℕ) (rec : Record) (number : ℕ) (out : List ℕ) (p : permit
   sent-inside = omega (arith, as-long, ap length in-front ∙ length-append (telegramOf line rec number) _)
 
 pub stored : (d : Desk) (s new : List ℕ) (n : ℕ) → n ≡ length s → new ≡ take (length s) s ++ drop (length s) (replicate longest 0)
-    → _≡_ {A = Desk} record { line = d .line; good = d .good; last = d .last; t1 = d .t1; kept = n; stored = new; requested = d .requested; queued = d .queued; queue = d .queue; key = d .key } (withStored d s)
+    → _≡_ {A = Desk} record {
+      line = d .line;
+      good = d .good;
+      last = d .last;
+      t1 = d .t1;
+      kept = n;
+      stored = new;
+      requested = d .requested;
+      queued = d .queued;
+      queue = d .queue;
+      key = d .key;
+    }
+    (withStored d s)
 stored d s new n h e = rw (h, e, take-length)
 
 pub fault-sent : (d : Desk) (lost : Bool) (number : ℕ) (out : List ℕ) (k : ℕ) (new : List ℕ) → (k, new) ≡ sentOf (telegramOf (d .line) (Rejected (code "1")) number) out

@@ -24,7 +24,19 @@ Hearing = Desk × Told × List ℕ
 
 -- line good, number kept as last taken
 abbrev pub marked : Desk → ℕ → Desk
-marked d number = record { line = d .line; good = true; last = record { 0 = number }; t1 = d .t1; kept = d .kept; stored = d .stored; requested = d .requested; queued = d .queued; queue = d .queue; key = d .key }
+marked d number =
+    record {
+      line = d .line;
+      good = true;
+      last = record { 0 = number };
+      t1 = d .t1;
+      kept = d .kept;
+      stored = d .stored;
+      requested = d .requested;
+      queued = d .queued;
+      queue = d .queue;
+      key = d .key;
+    }
 
 -- T1 restarts
 abbrev pub restarted : Desk → ℕ → Desk
@@ -32,7 +44,19 @@ restarted d at = record { line = d .line; good = d .good; last = d .last; t1 = a
 
 -- the answer is stored, with zeros behind it
 abbrev pub withStored : Desk → List ℕ → Desk
-withStored d t = record { line = d .line; good = d .good; last = d .last; t1 = d .t1; kept = length t; stored = t ++ drop (length t) (replicate longest 0); requested = d .requested; queued = d .queued; queue = d .queue; key = d .key }
+withStored d t =
+    record {
+      line = d .line;
+      good = d .good;
+      last = d .last;
+      t1 = d .t1;
+      kept = length t;
+      stored = t ++ drop (length t) (replicate longest 0);
+      requested = d .requested;
+      queued = d .queued;
+      queue = d .queue;
+      key = d .key;
+    }
 
 -- answers N with 1 and that number; all else unchanged
 unfoldable pub faultedOf : Desk → Bool → ℕ → List ℕ → Hearing

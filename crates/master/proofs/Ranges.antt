@@ -98,7 +98,8 @@ sendable-both line rec h k = both-true (byMaster line (typeOf rec)) (permitsReco
 pub poll-sendable : (line : ℕ) → isLine line ≡ true → sendable line (pollOf line) ≡ true
 poll-sendable line h =
     each-line (λ (l : ℕ). sendable l (pollOf l))
-    (unfold sendable pollOf forms onLine lookIn typeRow formOf slotsIn countOf slotsOf dataType lineOf leadOf isDecimal permits ruled permitsNumber textOf numberWidth permittedFrom numberFits permitsValue permitsValues permitsRecord narrow numeralOn leftOf inSet in refl)
+    (unfold sendable pollOf forms onLine lookIn typeRow formOf slotsIn countOf slotsOf dataType lineOf leadOf isDecimal permits ruled permitsNumber textOf
+    numberWidth permittedFrom numberFits permitsValue permitsValues permitsRecord narrow numeralOn leftOf inSet in refl)
     line h
 
 -- noting the line changes no range

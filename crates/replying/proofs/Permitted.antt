@@ -31,7 +31,8 @@ abbrev plainOn : ℕ → Bool
 plainOn line = every (permitsRecord line) (Rejected (code "1") ∷ Rejected (code "A") ∷ Approved (code "A") ∷ [])
 
 plain-on : (line : ℕ) → isLine line ≡ true → plainOn line ≡ true
-unfolding forms onLine lookIn typeRow formOf slotsIn countOf slotsOf dataType lineOf leadOf isDecimal permits ruled permitsNumber textOf numberWidth permittedFrom numberFits permitsValue permitsValues permitsRecord narrow numeralOn leftOf inSet
+unfolding forms onLine lookIn typeRow formOf slotsIn countOf slotsOf dataType lineOf leadOf isDecimal permits ruled permitsNumber textOf numberWidth
+    permittedFrom numberFits permitsValue permitsValues permitsRecord narrow numeralOn leftOf inSet
 plain-on line h = each-line plainOn refl line h
 
 module _ (line : ℕ) (h : isLine line ≡ true) where
@@ -52,7 +53,8 @@ abbrev keyedOn : ℕ → Bool
 keyedOn line = cond (lineOf line .keyed) (every (λ (k : ℕ). permitsRecord line (Approved k)) (codes "AXY")) true
 
 keyed-on : (line : ℕ) → isLine line ≡ true → keyedOn line ≡ true
-unfolding forms onLine lookIn typeRow formOf slotsIn countOf slotsOf dataType lineOf leadOf isDecimal permits ruled permitsNumber textOf numberWidth permittedFrom numberFits permitsValue permitsValues permitsRecord narrow numeralOn leftOf inSet
+unfolding forms onLine lookIn typeRow formOf slotsIn countOf slotsOf dataType lineOf leadOf isDecimal permits ruled permitsNumber textOf numberWidth
+    permittedFrom numberFits permitsValue permitsValues permitsRecord narrow numeralOn leftOf inSet
 keyed-on line h = each-line keyedOn refl line h
 
 key-permitted : (line key : ℕ) → isLine line ≡ true → keyFits line key ≡ true → permitsRecord line (Approved (keyOn line key)) ≡ true

@@ -11,7 +11,9 @@ use Rattle.captures.proofs.pieces.list_part.Statement.{statement}
 use Rattle.captures.proofs.pieces.list_part.Tie as tie
 
 abbrev Inv-loop : tie.InvT-loop
-Inv-loop line ordinal base s from out₀ next₀ count₀ filled₀ out next count filled = (filled ≤ length out) × (length out ≡ length out₀) × (listedIn line base s (spansOf s next) next count filled out ≡ listPart line ordinal base s from out₀)
+Inv-loop line ordinal base s from out₀ next₀ count₀ filled₀ out next count filled =
+    (filled ≤ length out) × (length out ≡ length out₀)
+    × (listedIn line base s (spansOf s next) next count filled out ≡ listPart line ordinal base s from out₀)
 
 abbrev μ-loop : tie.MeasureT-loop
 μ-loop line ordinal base s from out₀ next₀ count₀ filled₀ out next count filled = length s - next
@@ -40,24 +42,37 @@ wrapping-add-u64-requires c κs = search needs
 
 add-filled : tie.Need-add-filled Inv-loop μ-loop
 add-filled c =
-    let l = c .before .before .before .before .before .before .before .before .loop in
     let a = c .before .before .before .before .before .before .before .before .before .before .before .args in
-    let t = told (a .line) (l .count) (a .base) (now (a .s)) (l .next) (l .out) (l .filled) (l .inv .0) _ _ _ (c .before .before .before .before .before .before .put-next .ensures) (c .before .before .end .given .1) in
-    omega (arith, t .2 (c .before .before .before .before .before .before .put-next .kept .1 .1 .1 .1 .1 .0))
+    let l = c .before .before .before .before .before .before .before .before .loop in
+    let put-next = c .before .before .before .before .before .before .put-next in
+    let t =
+    told (a .line) (l .count) (a .base) (now (a .s)) (l .next) (l .out) (l .filled) (l .inv .0) _ _ _ (put-next .ensures)
+    (c .before .before .end .given .1) in
+    omega (arith, t .2 (put-next .kept .1 .1 .1 .1 .1 .0))
 
 loop-less : tie.Need-loop-less Inv-loop μ-loop
 loop-less c =
-    let l = c .before .before .before .before .before .before .before .before .loop in
     let a = c .before .before .before .before .before .before .before .before .before .before .before .args in
-    let t = told (a .line) (l .count) (a .base) (now (a .s)) (l .next) (l .out) (l .filled) (l .inv .0) _ _ _ (c .before .before .before .before .before .before .put-next .ensures) (c .before .before .end .given .1) in
+    let l = c .before .before .before .before .before .before .before .before .loop in
+    let put-next = c .before .before .before .before .before .before .put-next in
+    let t =
+    told (a .line) (l .count) (a .base) (now (a .s)) (l .next) (l .out) (l .filled) (l .inv .0) _ _ _ (put-next .ensures)
+    (c .before .before .end .given .1) in
     omega (arith, t .0, t .1)
 
 loop-again : tie.Need-loop-again Inv-loop μ-loop
 loop-again c =
-    let l = c .before .before .before .before .before .before .before .before .loop in
     let a = c .before .before .before .before .before .before .before .before .before .before .before .args in
-    let t = told (a .line) (l .count) (a .base) (now (a .s)) (l .next) (l .out) (l .filled) (l .inv .0) _ _ _ (c .before .before .before .before .before .before .put-next .ensures) (c .before .before .end .given .1) in
-    (omega (arith, t .2 (c .before .before .before .before .before .before .put-next .kept .1 .1 .1 .1 .1 .0), c .before .before .before .before .before .out .given .1), c .before .before .before .before .before .out .given .1 ∙ l .inv .1, rw (c .wrapping-add-u64 .ensures) (t .3 ∙ l .inv .2))
+    let l = c .before .before .before .before .before .before .before .before .loop in
+    let put-next = c .before .before .before .before .before .before .put-next in
+    let out = c .before .before .before .before .before .out in
+    let t =
+    told (a .line) (l .count) (a .base) (now (a .s)) (l .next) (l .out) (l .filled) (l .inv .0) _ _ _ (put-next .ensures)
+    (c .before .before .end .given .1) in (
+      omega (arith, t .2 (put-next .kept .1 .1 .1 .1 .1 .0), out .given .1),
+      out .given .1 ∙ l .inv .1,
+      rw (c .wrapping-add-u64 .ensures) (t .3 ∙ l .inv .2),
+    )
 
 enum-told : tie.Need-enum-told Inv-loop μ-loop
 enum-told c = search needs

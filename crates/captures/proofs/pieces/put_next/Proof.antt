@@ -40,8 +40,15 @@ same-length c = search needs
 returns : tie.Need-returns
 returns c =
     let a = c .before .before .before .before .before .before .before .before .before .before .before .before .before .before .before .before .args in
-    one-put (a .line) (a .ordinal) (a .base) (now (a .s)) (a .from) (now (a .out)) _ _ _ _ (c .before .before .before .before .before .before .before .read .result) (c .before .before .before .before .before .put-line .result) _ _
-    (sym (c .before .before .before .before .before .before .before .before .before .before .before .before .before .span-of .ensures) ∙ c .before .before .before .before .before .before .before .before .before .before .before .span .given .1) (c .before .before .before .before .before .before .before .before .before .wrapping-add-u64 .ensures) (c .before .before .before .before .before .before .before .before .part-of .ensures) (c .before .before .before .before .before .before .before .read .ensures) (c .before .before .before .before .before .put-line .ensures) (ap outcomeOf (c .before .put .given .1))
+    let span-of = c .before .before .before .before .before .before .before .before .before .before .before .before .before .span-of in
+    let span = c .before .before .before .before .before .before .before .before .before .before .before .span in
+    let wrapping-add-u64 = c .before .before .before .before .before .before .before .before .before .wrapping-add-u64 in
+    let part-of = c .before .before .before .before .before .before .before .before .part-of in
+    let read = c .before .before .before .before .before .before .before .read in
+    let put-line = c .before .before .before .before .before .put-line in
+    one-put (a .line) (a .ordinal) (a .base) (now (a .s)) (a .from) (now (a .out)) _ _ _ _ (read .result) (put-line .result) _ _
+    (sym (span-of .ensures) ∙ span .given .1) (wrapping-add-u64 .ensures) (part-of .ensures) (read .ensures) (put-line .ensures)
+    (ap outcomeOf (c .before .put .given .1))
 
 same-length-2 : tie.Need-same-length-2
 same-length-2 c = search needs
@@ -49,8 +56,15 @@ same-length-2 c = search needs
 returns-2 : tie.Need-returns-2
 returns-2 c =
     let a = c .before .before .before .before .before .before .before .before .before .before .before .before .before .before .before .args in
-    one-put (a .line) (a .ordinal) (a .base) (now (a .s)) (a .from) (now (a .out)) _ _ _ _ (c .before .before .before .before .before .before .read .result) (c .before .before .before .before .put-line .result) _ _
-    (sym (c .before .before .before .before .before .before .before .before .before .before .before .before .span-of .ensures) ∙ c .before .before .before .before .before .before .before .before .before .before .span .given .1) (c .before .before .before .before .before .before .before .before .wrapping-add-u64 .ensures) (c .before .before .before .before .before .before .before .part-of .ensures) (c .before .before .before .before .before .before .read .ensures) (c .before .before .before .before .put-line .ensures) (ap outcomeOf (c .enum-told .given .1))
+    let span-of = c .before .before .before .before .before .before .before .before .before .before .before .before .span-of in
+    let span = c .before .before .before .before .before .before .before .before .before .before .span in
+    let wrapping-add-u64 = c .before .before .before .before .before .before .before .before .wrapping-add-u64 in
+    let part-of = c .before .before .before .before .before .before .before .part-of in
+    let read = c .before .before .before .before .before .before .read in
+    let put-line = c .before .before .before .before .put-line in
+    one-put (a .line) (a .ordinal) (a .base) (now (a .s)) (a .from) (now (a .out)) _ _ _ _ (read .result) (put-line .result) _ _
+    (sym (span-of .ensures) ∙ span .given .1) (wrapping-add-u64 .ensures) (part-of .ensures) (read .ensures) (put-line .ensures)
+    (ap outcomeOf (c .enum-told .given .1))
 
 returns-3 : tie.Need-returns-3
 returns-3 c =

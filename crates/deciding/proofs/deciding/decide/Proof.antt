@@ -36,9 +36,13 @@ returns c = let a = c .before .before .before .before .before .before .before .b
     ∙ when-accepted (a .line) (a .good) (a .last .0) (now (a .frame)) _ _ (sym (ap answerOf (k .1)) ∙ c .before .before .before .before .before .read .ensures)
 
 returns-2 : tie.Need-returns-2
-returns-2 c = let a = c .before .before .before .before .before .before .before .args in
+returns-2 c =
+    let a = c .before .before .before .before .before .before .before .args in
+    let byte-at = c .before .before .before .before .before .byte-at in
+    let read = c .before .before .before .before .read in
     c .on-refused .ensures
-    ∙ when-refused (a .line) (a .good) (a .last .0) (now (a .frame)) _ _ (sym (ap answerOf (c .before .before .reading2 .given .1)) ∙ c .before .before .before .before .read .ensures) (c .before .before .before .before .before .byte-at .ensures)
+    ∙ when-refused (a .line) (a .good) (a .last .0) (now (a .frame)) _ _ (sym (ap answerOf (c .before .before .reading2 .given .1)) ∙ read .ensures)
+    (byte-at .ensures)
 
 pub decide-spec : {M : Type 1} → statement M
 decide-spec =

@@ -17,8 +17,12 @@ number-in-requires : tie.Need-number-in-requires
 number-in-requires c κs = search needs
 
 returns : tie.Need-returns
-returns c = let a = c .before .before .before .before .before .args in
-    bad-sum (a .good) (a .last .0) _ (a .byte) (sym (c .before .before .before .before .number-of .ensures) ∙ c .before .before .before .if1 .taken) (sym (c .before .before .is-number .ensures) ∙ c .before .if2 .taken) _ (c .number-in .ensures)
+returns c =
+    let a = c .before .before .before .before .before .args in
+    let number-of = c .before .before .before .before .number-of in
+    let if1 = c .before .before .before .if1 in
+    bad-sum (a .good) (a .last .0) _ (a .byte) (sym (number-of .ensures) ∙ if1 .taken)
+    (sym (c .before .before .is-number .ensures) ∙ c .before .if2 .taken) _ (c .number-in .ensures)
 
 returns-2 : tie.Need-returns-2
 returns-2 c = let a = c .before .before .before .before .args in
@@ -39,9 +43,14 @@ on-good-requires : tie.Need-on-good-requires
 on-good-requires c κs = search needs
 
 returns-5 : tie.Need-returns-5
-returns-5 c = let a = c .before .before .before .before .before .before .args in let k = c .before .before .before .before .before .number-of .ensures in
+returns-5 c =
+    let a = c .before .before .before .before .before .before .args in
+    let number-of = c .before .before .before .before .before .number-of in
+    let if1 = c .before .before .before .before .if1 in
+    let k = number-of .ensures in
     c .on-good .ensures
-    ∙ bad-contents (a .good) (a .last .0) (refusalOf (a .refusal)) (a .byte) (λ e. c .before .before .before .before .if1 .left (k ∙ e)) (omega (arith, k)) (omega (arith, k)) _ (c .before .number-in2 .ensures)
+    ∙ bad-contents (a .good) (a .last .0) (refusalOf (a .refusal)) (a .byte) (λ e. if1 .left (k ∙ e)) (omega (arith, k)) (omega (arith, k)) _
+    (c .before .number-in2 .ensures)
 
 pub on-refused-spec : {M : Type 1} → statement M
 on-refused-spec =

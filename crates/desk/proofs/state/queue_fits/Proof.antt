@@ -30,10 +30,15 @@ may-reply-requires : tie.Need-may-reply-requires Inv-loop μ-loop
 may-reply-requires c κs = search needs
 
 returns : tie.Need-returns Inv-loop μ-loop
-returns c = let a = c .before .before .before .before .before .args in
+returns c =
+    let a = c .before .before .before .before .before .args in
     let l = c .before .before .before .before .loop in
+    let loop-test = c .before .before .before .loop-test in
     let w : length (a .t2) ≡ 8 = search needs in
-    sym (place-bad (waitingFits (a .line)) (a .t2) (a .n) (l .i) blank (c .before .before .before .loop-test .taken) (omega arith) (sym (c .before .may-reply .ensures) ∙ not-true _ (c .if1 .taken))) ∙ l .inv .1
+    sym
+    (place-bad (waitingFits (a .line)) (a .t2) (a .n) (l .i) blank (loop-test .taken) (omega arith)
+    (sym (c .before .may-reply .ensures) ∙ not-true _ (c .if1 .taken)))
+    ∙ l .inv .1
 
 add-i : tie.Need-add-i Inv-loop μ-loop
 add-i c = search needs
@@ -42,10 +47,16 @@ loop-less : tie.Need-loop-less Inv-loop μ-loop
 loop-less c = search needs
 
 loop-again : tie.Need-loop-again Inv-loop μ-loop
-loop-again c = let a = c .before .before .before .before .before .args in
+loop-again c =
+    let a = c .before .before .before .before .before .args in
     let l = c .before .before .before .before .loop in
-    let w : length (a .t2) ≡ 8 = search needs in
-    (omega arith, place-good (waitingFits (a .line)) (a .t2) (a .n) (l .i) blank (c .before .before .before .loop-test .taken) (omega arith) (sym (c .before .may-reply .ensures) ∙ not-false _ (c .if1 .left)) ∙ l .inv .1)
+    let loop-test = c .before .before .before .loop-test in
+    let w : length (a .t2) ≡ 8 = search needs in (
+      omega arith,
+      place-good (waitingFits (a .line)) (a .t2) (a .n) (l .i) blank (loop-test .taken) (omega arith)
+          (sym (c .before .may-reply .ensures) ∙ not-false _ (c .if1 .left))
+          ∙ l .inv .1,
+    )
 
 returns-2 : tie.Need-returns-2 Inv-loop μ-loop
 returns-2 c = let a = c .before .before .args in

@@ -31,8 +31,14 @@ is-requires : tie.Need-is-requires
 is-requires c κs = search needs
 
 returns-2 : tie.Need-returns-2
-returns-2 c = let a = c .before .before .before .before .before .before .before .before .args in let g = sym (ap faultOf (c .before .before .before .before .enum-told .given .1)) ∙ c .before .before .before .before .before .before .frame-check .ensures in
-    when-other (a .line) (a .number .0) (a .sent) (now (a .frame)) g _ _ (c .before .before .before .byte-at .ensures) (c .before .before .number-in .ensures) (sym (c .before .is .ensures) ∙ not-true _ (c .if1 .taken))
+returns-2 c =
+    let a = c .before .before .before .before .before .before .before .before .args in
+    let frame-check = c .before .before .before .before .before .before .frame-check in
+    let enum-told = c .before .before .before .before .enum-told in
+    let byte-at = c .before .before .before .byte-at in
+    let g = sym (ap faultOf (enum-told .given .1)) ∙ frame-check .ensures in
+    when-other (a .line) (a .number .0) (a .sent) (now (a .frame)) g _ _ (byte-at .ensures) (c .before .before .number-in .ensures)
+    (sym (c .before .is .ensures) ∙ not-true _ (c .if1 .taken))
 
 read-requires : tie.Need-read-requires
 read-requires c κs = search needs
@@ -41,9 +47,17 @@ on-reading-requires : tie.Need-on-reading-requires
 on-reading-requires c κs = search needs
 
 returns-3 : tie.Need-returns-3
-returns-3 c = let a = c .before .before .before .before .before .before .before .before .before .before .args in let g = sym (ap faultOf (c .before .before .before .before .before .before .enum-told .given .1)) ∙ c .before .before .before .before .before .before .before .before .frame-check .ensures in
+returns-3 c =
+    let a = c .before .before .before .before .before .before .before .before .before .before .args in
+    let frame-check = c .before .before .before .before .before .before .before .before .frame-check in
+    let enum-told = c .before .before .before .before .before .before .enum-told in
+    let byte-at = c .before .before .before .before .before .byte-at in
+    let number-in = c .before .before .before .before .number-in in
+    let is = c .before .before .before .is in
+    let g = sym (ap faultOf (enum-told .given .1)) ∙ frame-check .ensures in
     c .on-reading .ensures
-    ∙ when-taken (a .line) (a .number .0) (a .sent) (now (a .frame)) g _ _ (c .before .before .before .before .before .byte-at .ensures) (c .before .before .before .before .number-in .ensures) (sym (c .before .before .before .is .ensures) ∙ not-false _ (c .before .before .if1 .left)) _ (c .before .read .ensures)
+    ∙ when-taken (a .line) (a .number .0) (a .sent) (now (a .frame)) g _ _ (byte-at .ensures) (number-in .ensures)
+    (sym (is .ensures) ∙ not-false _ (c .before .before .if1 .left)) _ (c .before .read .ensures)
 
 pub judge-spec : {M : Type 1} → statement M
 judge-spec =

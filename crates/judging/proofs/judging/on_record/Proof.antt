@@ -18,12 +18,20 @@ permitted-answer-requires : tie.Need-permitted-answer-requires
 permitted-answer-requires c κs = search needs
 
 returns-2 : tie.Need-returns-2
-returns-2 c = let a = c .before .before .before .before .before .args in
-    by-permitted (a .line) (a .sent) (a .rec) (a .number) (sym (c .before .before .before .before .is-failure .ensures) ∙ c .before .before .before .if1 .left) _ (c .before .before .type-of .ensures) (sym (c .before .permitted-answer .ensures) ∙ c .if2 .taken)
+returns-2 c =
+    let a = c .before .before .before .before .before .args in
+    let is-failure = c .before .before .before .before .is-failure in
+    let if1 = c .before .before .before .if1 in
+    by-permitted (a .line) (a .sent) (a .rec) (a .number) (sym (is-failure .ensures) ∙ if1 .left) _ (c .before .before .type-of .ensures)
+    (sym (c .before .permitted-answer .ensures) ∙ c .if2 .taken)
 
 returns-3 : tie.Need-returns-3
-returns-3 c = let a = c .before .before .before .before .before .args in
-    by-other (a .line) (a .sent) (a .rec) (a .number) (sym (c .before .before .before .before .is-failure .ensures) ∙ c .before .before .before .if1 .left) _ (c .before .before .type-of .ensures) (sym (c .before .permitted-answer .ensures) ∙ c .if2 .left)
+returns-3 c =
+    let a = c .before .before .before .before .before .args in
+    let is-failure = c .before .before .before .before .is-failure in
+    let if1 = c .before .before .before .if1 in
+    by-other (a .line) (a .sent) (a .rec) (a .number) (sym (is-failure .ensures) ∙ if1 .left) _ (c .before .before .type-of .ensures)
+    (sym (c .before .permitted-answer .ensures) ∙ c .if2 .left)
 
 pub on-record-spec : {M : Type 1} → statement M
 on-record-spec =

@@ -27,7 +27,11 @@ is-one-requires : tie.Need-is-one-requires
 is-one-requires c κs = search needs
 
 returns-2 : tie.Need-returns-2
-returns-2 c = c .is-one .ensures ∙ rejected (c .before .before .before .before .args .rec) (c .before .before .before .type-of .result) (c .before .before .before .type-of .ensures) (c .before .before .if1 .left) (c .before .values-of .result) (c .before .values-of .ensures)
+returns-2 c =
+    let a = c .before .before .before .before .args in
+    let type-of = c .before .before .before .type-of in
+    c .is-one .ensures
+    ∙ rejected (a .rec) (type-of .result) (type-of .ensures) (c .before .before .if1 .left) (c .before .values-of .result) (c .before .values-of .ensures)
 
 pub is-failure-spec : {M : Type 1} → statement M
 is-failure-spec =

@@ -18,10 +18,16 @@ is-one-requires : tie.Need-is-one-requires
 is-one-requires c κs = search needs
 
 returns : tie.Need-returns
-returns c = c .is-one .ensures ∙ wanted (c .before .before .before .args .line) (c .before .before .before .args .sent) (c .before .before .before .args .got) (c .before .before .data-type .result) (c .before .before .data-type .ensures) (c .before .if1 .taken)
+returns c =
+    let a = c .before .before .before .args in
+    let data-type = c .before .before .data-type in
+    c .is-one .ensures ∙ wanted (a .line) (a .sent) (a .got) (data-type .result) (data-type .ensures) (c .before .if1 .taken)
 
 returns-2 : tie.Need-returns-2
-returns-2 c = idle-data (c .before .before .before .before .args .line) (c .before .before .before .before .args .sent) (c .before .before .before .before .args .got) (c .before .before .before .data-type .result) (c .before .before .before .data-type .ensures) (c .before .before .if1 .left) (c .before .if2 .taken) (c .if3 .taken)
+returns-2 c =
+    let a = c .before .before .before .before .args in
+    let data-type = c .before .before .before .data-type in
+    idle-data (a .line) (a .sent) (a .got) (data-type .result) (data-type .ensures) (c .before .before .if1 .left) (c .before .if2 .taken) (c .if3 .taken)
 
 cast-is-one-3 : tie.Need-cast-is-one-3
 cast-is-one-3 c = search needs
@@ -33,7 +39,12 @@ is-one-requires-2 : tie.Need-is-one-requires-2
 is-one-requires-2 c κs = search needs
 
 returns-3 : tie.Need-returns-3
-returns-3 c = c .is-one2 .ensures ∙ idle-other (c .before .before .before .before .before .args .line) (c .before .before .before .before .before .args .sent) (c .before .before .before .before .before .args .got) (c .before .before .before .before .data-type .result) (c .before .before .before .before .data-type .ensures) (c .before .before .before .if1 .left) (c .before .before .if2 .taken) (c .before .if3 .left)
+returns-3 c =
+    let a = c .before .before .before .before .before .args in
+    let data-type = c .before .before .before .before .data-type in
+    let if1 = c .before .before .before .if1 in
+    c .is-one2 .ensures
+    ∙ idle-other (a .line) (a .sent) (a .got) (data-type .result) (data-type .ensures) (if1 .left) (c .before .before .if2 .taken) (c .before .if3 .left)
 
 cast-is-one-5 : tie.Need-cast-is-one-5
 cast-is-one-5 c = search needs
@@ -45,7 +56,11 @@ is-one-requires-3 : tie.Need-is-one-requires-3
 is-one-requires-3 c κs = search needs
 
 returns-4 : tie.Need-returns-4
-returns-4 c = c .is-one3 .ensures ∙ other-sent (c .before .before .before .before .args .line) (c .before .before .before .before .args .sent) (c .before .before .before .before .args .got) (c .before .before .before .data-type .result) (c .before .before .before .data-type .ensures) (c .before .before .if1 .left) (c .before .if2 .left)
+returns-4 c =
+    let a = c .before .before .before .before .args in
+    let data-type = c .before .before .before .data-type in
+    c .is-one3 .ensures
+    ∙ other-sent (a .line) (a .sent) (a .got) (data-type .result) (data-type .ensures) (c .before .before .if1 .left) (c .before .if2 .left)
 
 pub permitted-answer-spec : {M : Type 1} → statement M
 permitted-answer-spec =

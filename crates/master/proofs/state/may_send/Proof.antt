@@ -15,10 +15,17 @@ permits-record-requires : tie.Need-permits-record-requires
 permits-record-requires c κs = search needs
 
 returns : tie.Need-returns
-returns c = c .permits-record .ensures ∙ sends-type (c .before .before .before .before .args .line) (c .before .before .before .before .args .rec) (c .before .before .before .type-of .result) (c .before .before .before .type-of .ensures) (sym (c .before .before .by-master .ensures) ∙ c .before .if1 .taken)
+returns c =
+    let a = c .before .before .before .before .args in
+    let type-of = c .before .before .before .type-of in
+    c .permits-record .ensures
+    ∙ sends-type (a .line) (a .rec) (type-of .result) (type-of .ensures) (sym (c .before .before .by-master .ensures) ∙ c .before .if1 .taken)
 
 returns-2 : tie.Need-returns-2
-returns-2 c = other-type (c .before .before .before .args .line) (c .before .before .before .args .rec) (c .before .before .type-of .result) (c .before .before .type-of .ensures) (sym (c .before .by-master .ensures) ∙ c .if1 .left)
+returns-2 c =
+    let a = c .before .before .before .args in
+    let type-of = c .before .before .type-of in
+    other-type (a .line) (a .rec) (type-of .result) (type-of .ensures) (sym (c .before .by-master .ensures) ∙ c .if1 .left)
 
 pub may-send-spec : {M : Type 1} → statement M
 may-send-spec =

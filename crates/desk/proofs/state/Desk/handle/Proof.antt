@@ -64,9 +64,13 @@ same-length c = search needs
 returns : tie.Need-returns
 returns c =
     let s = c .before .before .before .before .before .before .before .before .before .before .before in
+    let reply = c .before .before .before .before .before .before .before .before .before .reply in
+    let send = c .before .before .before .before .before .before .before .send in
+    let without = c .before .before .before .before .without in
+    let mark = c .before .before .before .mark in
     let a = s .args in
-    handle-sent (a .self) (matterOf (a .matter)) (permitted s) _ _ (c .before .before .before .before .before .before .before .before .before .reply .ensures) (a .lost) (a .at) (a .number) (now (a .out)) (s .pre .1) (s .pre .2)
-    _ _ (c .before .before .before .before .before .before .before .send .ensures) _ _ _ _ (c .before .before .before .before .without .ensures) (c .before .before .before .mark .ensures) (c .before .before .restart .ensures) (c .store .ensures)
+    handle-sent (a .self) (matterOf (a .matter)) (permitted s) _ _ (reply .ensures) (a .lost) (a .at) (a .number) (now (a .out)) (s .pre .1) (s .pre .2)
+    _ _ (send .ensures) _ _ _ _ (without .ensures) (mark .ensures) (c .before .before .restart .ensures) (c .store .ensures)
 
 pub handle-spec : {M : Type 1} → statement M
 handle-spec =

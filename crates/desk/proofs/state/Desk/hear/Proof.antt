@@ -40,9 +40,15 @@ same-length c = search needs
 returns-3 : tie.Need-returns-3
 returns-3 c =
     let a = c .before .before .before .before .before .before .before .before .before .before .before .before .before .args in
-    let r = sym (c .before .before .before .before .before .before .before .before .before .before .in-ranges .ensures) ∙ not-false _ (c .before .before .before .before .before .before .before .before .before .if1 .left) in
+    let in-ranges = c .before .before .before .before .before .before .before .before .before .before .in-ranges in
+    let if1 = c .before .before .before .before .before .before .before .before .before .if1 in
+    let if2 = c .before .before .before .before .before .before .before .before .if2 in
+    let loses = c .before .before .before .before .before .before .before .loses in
+    let noted = c .before .before .before .before .before .before .noted in
+    let decide = c .before .before .before .before .decide in
+    let r = sym (in-ranges .ensures) ∙ not-false _ (if1 .left) in
     c .before .before .apply .ensures
-    ∙ hear-applied (a .self) (a .at) (now (a .frame)) (now (a .out)) r (c .before .before .before .before .before .before .before .before .if2 .left) _ (c .before .before .before .before .before .before .before .loses .ensures) _ (c .before .before .before .before .before .before .noted .ensures) _ (c .before .before .before .before .decide .ensures)
+    ∙ hear-applied (a .self) (a .at) (now (a .frame)) (now (a .out)) r (if2 .left) _ (loses .ensures) _ (noted .ensures) _ (decide .ensures)
 
 pub hear-spec : {M : Type 1} → statement M
 hear-spec =

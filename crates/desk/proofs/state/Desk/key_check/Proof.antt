@@ -25,14 +25,22 @@ is-key-requires : tie.Need-is-key-requires
 is-key-requires c κs = search needs
 
 returns-3 : tie.Need-returns-3
-returns-3 c = let a = c .before .before .before .before .before .before .before .args in
-    let k = sym (ap (λ (r : Line). r .keyed) (c .before .before .before .before .line-of .ensures)) ∙ not-false _ (c .before .before .if2 .left) in
-    key-value (a .self) (a .key) (sym (c .before .before .before .before .before .before .in-ranges .ensures) ∙ not-false _ (c .before .before .before .before .before .if1 .left)) k (sym (c .before .is-key .ensures) ∙ not-true _ (c .if3 .taken))
+returns-3 c =
+    let a = c .before .before .before .before .before .before .before .args in
+    let in-ranges = c .before .before .before .before .before .before .in-ranges in
+    let if1 = c .before .before .before .before .before .if1 in
+    let line-of = c .before .before .before .before .line-of in
+    let k = sym (ap (λ (r : Line). r .keyed) (line-of .ensures)) ∙ not-false _ (c .before .before .if2 .left) in
+    key-value (a .self) (a .key) (sym (in-ranges .ensures) ∙ not-false _ (if1 .left)) k (sym (c .before .is-key .ensures) ∙ not-true _ (c .if3 .taken))
 
 returns-4 : tie.Need-returns-4
-returns-4 c = let a = c .before .before .before .before .before .before .before .args in
-    let k = sym (ap (λ (r : Line). r .keyed) (c .before .before .before .before .line-of .ensures)) ∙ not-false _ (c .before .before .if2 .left) in
-    key-good (a .self) (a .key) (sym (c .before .before .before .before .before .before .in-ranges .ensures) ∙ not-false _ (c .before .before .before .before .before .if1 .left)) k (sym (c .before .is-key .ensures) ∙ not-false _ (c .if3 .left))
+returns-4 c =
+    let a = c .before .before .before .before .before .before .before .args in
+    let in-ranges = c .before .before .before .before .before .before .in-ranges in
+    let if1 = c .before .before .before .before .before .if1 in
+    let line-of = c .before .before .before .before .line-of in
+    let k = sym (ap (λ (r : Line). r .keyed) (line-of .ensures)) ∙ not-false _ (c .before .before .if2 .left) in
+    key-good (a .self) (a .key) (sym (in-ranges .ensures) ∙ not-false _ (if1 .left)) k (sym (c .before .is-key .ensures) ∙ not-false _ (c .if3 .left))
 
 pub key-check-spec : {M : Type 1} → statement M
 key-check-spec =

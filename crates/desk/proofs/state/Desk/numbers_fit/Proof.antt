@@ -25,7 +25,15 @@ key-fits-requires : tie.Need-key-fits-requires
 key-fits-requires c κs = search needs
 
 returns-4 : tie.Need-returns-4
-returns-4 c = c .key-fits .ensures ∙ numbers-by-key (c .before .before .before .before .before .before .before .before .args .self) (sym (c .before .before .before .before .before .before .is-line .ensures) ∙ not-false _ (c .before .before .before .before .before .if1 .left)) (sym (c .before .before .before .before .in-range .ensures) ∙ not-false _ (c .before .before .before .if2 .left)) (c .before .if3 .left)
+returns-4 c =
+    let a = c .before .before .before .before .before .before .before .before .args in
+    let is-line = c .before .before .before .before .before .before .is-line in
+    let if1 = c .before .before .before .before .before .if1 in
+    let in-range = c .before .before .before .before .in-range in
+    let if2 = c .before .before .before .if2 in
+    c .key-fits .ensures
+    ∙ numbers-by-key (a .self) (sym (is-line .ensures) ∙ not-false _ (if1 .left)) (sym (in-range .ensures) ∙ not-false _ (if2 .left))
+    (c .before .if3 .left)
 
 pub numbers-fit-spec : {M : Type 1} → statement M
 numbers-fit-spec =

@@ -13,19 +13,29 @@ enum-known-check : tie.Need-enum-known-check
 enum-known-check c = search needs
 
 returns : tie.Need-returns
-returns c = queue-refused (c .before .before .before .before .args .self) (c .before .before .before .before .args .rec) _ (sym (ap faultOf (c .before .check .given .1)) ∙ c .before .before .before .record-check .ensures)
+returns c =
+    let a = c .before .before .before .before .args in
+    let record-check = c .before .before .before .record-check in
+    queue-refused (a .self) (a .rec) _ (sym (ap faultOf (c .before .check .given .1)) ∙ record-check .ensures)
 
 enum-told : tie.Need-enum-told
 enum-told c = search needs
 
 returns-2 : tie.Need-returns-2
-returns-2 c = queue-full (c .before .before .before .before .before .args .self) (c .before .before .before .before .before .args .rec) (sym (ap faultOf (c .before .before .enum-told .given .1)) ∙ c .before .before .before .before .record-check .ensures) (c .if1 .taken)
+returns-2 c =
+    let a = c .before .before .before .before .before .args in
+    let record-check = c .before .before .before .before .record-check in
+    queue-full (a .self) (a .rec) (sym (ap faultOf (c .before .before .enum-told .given .1)) ∙ record-check .ensures) (c .if1 .taken)
 
 with-queued-requires : tie.Need-with-queued-requires
 with-queued-requires c κs = search needs
 
 returns-3 : tie.Need-returns-3
-returns-3 c = queue-done (c .before .before .before .before .before .before .args .self) (c .before .before .before .before .before .before .args .rec) (sym (ap faultOf (c .before .before .before .enum-told .given .1)) ∙ c .before .before .before .before .before .record-check .ensures) (c .before .if1 .left) _ (c .with-queued .ensures)
+returns-3 c =
+    let a = c .before .before .before .before .before .before .args in
+    let record-check = c .before .before .before .before .before .record-check in
+    let enum-told = c .before .before .before .enum-told in
+    queue-done (a .self) (a .rec) (sym (ap faultOf (enum-told .given .1)) ∙ record-check .ensures) (c .before .if1 .left) _ (c .with-queued .ensures)
 
 pub queue-spec : {M : Type 1} → statement M
 queue-spec =

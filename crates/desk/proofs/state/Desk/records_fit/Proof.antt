@@ -22,7 +22,13 @@ queue-fits-requires : tie.Need-queue-fits-requires
 queue-fits-requires c κs = search needs
 
 returns-3 : tie.Need-returns-3
-returns-3 c = c .queue-fits .ensures ∙ records-by-queue (c .before .before .before .before .before .before .args .self) (sym (c .before .before .before .before .kept-fits .ensures) ∙ not-false _ (c .before .before .before .if1 .left)) (sym (c .before .before .wanted-fits .ensures) ∙ not-false _ (c .before .if2 .left))
+returns-3 c =
+    let a = c .before .before .before .before .before .before .args in
+    let kept-fits = c .before .before .before .before .kept-fits in
+    let if1 = c .before .before .before .if1 in
+    c .queue-fits .ensures
+    ∙ records-by-queue (a .self) (sym (kept-fits .ensures) ∙ not-false _ (if1 .left))
+    (sym (c .before .before .wanted-fits .ensures) ∙ not-false _ (c .before .if2 .left))
 
 pub records-fit-spec : {M : Type 1} → statement M
 records-fit-spec =

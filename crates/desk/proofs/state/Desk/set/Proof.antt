@@ -13,7 +13,10 @@ enum-known-check : tie.Need-enum-known-check
 enum-known-check c = search needs
 
 returns : tie.Need-returns
-returns c = set-refused (c .before .before .before .before .args .self) (c .before .before .before .before .args .rec) _ (sym (ap faultOf (c .before .check .given .1)) ∙ c .before .before .before .record-check .ensures)
+returns c =
+    let a = c .before .before .before .before .args in
+    let record-check = c .before .before .before .record-check in
+    set-refused (a .self) (a .rec) _ (sym (ap faultOf (c .before .check .given .1)) ∙ record-check .ensures)
 
 enum-told : tie.Need-enum-told
 enum-told c = search needs
@@ -22,7 +25,10 @@ with-requested-requires : tie.Need-with-requested-requires
 with-requested-requires c κs = search needs
 
 returns-2 : tie.Need-returns-2
-returns-2 c = set-done (c .before .before .before .before .args .self) (c .before .before .before .before .args .rec) (sym (ap faultOf (c .before .enum-told .given .1)) ∙ c .before .before .before .record-check .ensures) _ (c .with-requested .ensures)
+returns-2 c =
+    let a = c .before .before .before .before .args in
+    let record-check = c .before .before .before .record-check in
+    set-done (a .self) (a .rec) (sym (ap faultOf (c .before .enum-told .given .1)) ∙ record-check .ensures) _ (c .with-requested .ensures)
 
 pub set-spec : {M : Type 1} → statement M
 set-spec =

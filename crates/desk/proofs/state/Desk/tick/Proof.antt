@@ -19,13 +19,23 @@ noted-requires : tie.Need-noted-requires
 noted-requires c κs = search needs
 
 returns-2 : tie.Need-returns-2
-returns-2 c = tick-lost (c .before .before .before .before .before .args .self) (c .before .before .before .before .before .args .at) (sym (c .before .before .before .before .in-ranges .ensures) ∙ not-false _ (c .before .before .before .if1 .left)) (sym (c .before .before .loses .ensures) ∙ c .before .if2 .taken) _ (c .noted .ensures)
+returns-2 c =
+    let a = c .before .before .before .before .before .args in
+    let in-ranges = c .before .before .before .before .in-ranges in
+    let if1 = c .before .before .before .if1 in
+    tick-lost (a .self) (a .at) (sym (in-ranges .ensures) ∙ not-false _ (if1 .left)) (sym (c .before .before .loses .ensures) ∙ c .before .if2 .taken) _
+    (c .noted .ensures)
 
 noted-requires-2 : tie.Need-noted-requires-2
 noted-requires-2 c κs = search needs
 
 returns-3 : tie.Need-returns-3
-returns-3 c = tick-done (c .before .before .before .before .before .args .self) (c .before .before .before .before .before .args .at) (sym (c .before .before .before .before .in-ranges .ensures) ∙ not-false _ (c .before .before .before .if1 .left)) (sym (c .before .before .loses .ensures) ∙ c .before .if2 .left) _ (c .noted2 .ensures)
+returns-3 c =
+    let a = c .before .before .before .before .before .args in
+    let in-ranges = c .before .before .before .before .in-ranges in
+    let if1 = c .before .before .before .if1 in
+    tick-done (a .self) (a .at) (sym (in-ranges .ensures) ∙ not-false _ (if1 .left)) (sym (c .before .before .loses .ensures) ∙ c .before .if2 .left) _
+    (c .noted2 .ensures)
 
 pub tick-spec : {M : Type 1} → statement M
 tick-spec =

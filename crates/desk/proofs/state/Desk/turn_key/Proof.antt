@@ -13,7 +13,10 @@ enum-known-check : tie.Need-enum-known-check
 enum-known-check c = search needs
 
 returns : tie.Need-returns
-returns c = key-refused (c .before .before .before .before .args .self) (c .before .before .before .before .args .key) _ (sym (ap faultOf (c .before .check .given .1)) ∙ c .before .before .before .key-check .ensures)
+returns c =
+    let a = c .before .before .before .before .args in
+    let key-check = c .before .before .before .key-check in
+    key-refused (a .self) (a .key) _ (sym (ap faultOf (c .before .check .given .1)) ∙ key-check .ensures)
 
 enum-told : tie.Need-enum-told
 enum-told c = search needs
@@ -22,7 +25,10 @@ with-key-requires : tie.Need-with-key-requires
 with-key-requires c κs = search needs
 
 returns-2 : tie.Need-returns-2
-returns-2 c = key-done (c .before .before .before .before .args .self) (c .before .before .before .before .args .key) (sym (ap faultOf (c .before .enum-told .given .1)) ∙ c .before .before .before .key-check .ensures) _ (c .with-key .ensures)
+returns-2 c =
+    let a = c .before .before .before .before .args in
+    let key-check = c .before .before .before .key-check in
+    key-done (a .self) (a .key) (sym (ap faultOf (c .before .enum-told .given .1)) ∙ key-check .ensures) _ (c .with-key .ensures)
 
 pub turn-key-spec : {M : Type 1} → statement M
 turn-key-spec =

@@ -12,19 +12,28 @@ given-up-requires : tie.Need-given-up-requires
 given-up-requires c κs = search needs
 
 returns : tie.Need-returns
-returns c = gave-up (c .before .before .before .args .cause) (c .before .before .before .args .good) (c .before .before .before .args .self) (c .before .before .before .args .at) (now (c .before .before .before .args .out)) (c .before .if1 .taken) (c .given-up .result) (c .given-up .ensures)
+returns c =
+    let a = c .before .before .before .args in
+    gave-up (a .cause) (a .good) (a .self) (a .at) (now (a .out)) (c .before .if1 .taken) (c .given-up .result) (c .given-up .ensures)
 
 add-send : tie.Need-add-send
 add-send c = omega (arith, counted (c .before .before .args .self) (c .before .before .pre .0) (c .before .before .pre .1 .0))
 
 send-requires : tie.Need-send-requires
-send-requires c κs = let m = c .before .before .before .args .self in (sendable-permits (m .line) (m .rec) (sends m (c .before .before .before .pre .0) (c .before .before .before .pre .1 .0)), (numbered m (c .before .before .before .pre .0), c .before .before .before .pre .1 .1))
+send-requires c κs =
+    let a = c .before .before .before .args in
+    let pre = c .before .before .before .pre in
+    let m = a .self in
+    (sendable-permits (m .line) (m .rec) (sends m (pre .0) (pre .1 .0)), (numbered m (pre .0), pre .1 .1))
 
 same-length : tie.Need-same-length
 same-length c = search needs
 
 returns-2 : tie.Need-returns-2
-returns-2 c = c .before .before .send .ensures ∙ again (c .before .before .before .before .before .before .args .cause) (c .before .before .before .before .before .before .args .good) (c .before .before .before .before .before .before .args .self) (c .before .before .before .before .before .before .args .at) (now (c .before .before .before .before .before .before .args .out)) (c .before .before .before .before .if1 .left)
+returns-2 c =
+    let a = c .before .before .before .before .before .before .args in
+    let if1 = c .before .before .before .before .if1 in
+    c .before .before .send .ensures ∙ again (a .cause) (a .good) (a .self) (a .at) (now (a .out)) (if1 .left)
 
 pub fail-spec : {M : Type 1} → statement M
 fail-spec =

@@ -16,19 +16,45 @@ in-range-requires : tie.Need-in-range-requires
 in-range-requires c κs = search needs
 
 returns-2 : tie.Need-returns-2
-returns-2 c = no-number (c .before .before .before .before .before .args .self) (sym (c .before .before .before .is-line .ensures) ∙ not-false _ (c .before .before .if1 .left)) (sym (c .before .in-range .ensures) ∙ not-true _ (c .if2 .taken))
+returns-2 c =
+    let a = c .before .before .before .before .before .args in
+    let is-line = c .before .before .before .is-line in
+    no-number (a .self) (sym (is-line .ensures) ∙ not-false _ (c .before .before .if1 .left))
+    (sym (c .before .in-range .ensures) ∙ not-true _ (c .if2 .taken))
 
 returns-3 : tie.Need-returns-3
-returns-3 c = while-free (c .before .before .before .before .before .before .before .args .self) (sym (c .before .before .before .before .before .is-line .ensures) ∙ not-false _ (c .before .before .before .before .if1 .left)) (sym (c .before .before .before .in-range .ensures) ∙ not-false _ (c .before .before .if2 .left)) (c .if3 .taken)
+returns-3 c =
+    let a = c .before .before .before .before .before .before .before .args in
+    let is-line = c .before .before .before .before .before .is-line in
+    let if1 = c .before .before .before .before .if1 in
+    let in-range = c .before .before .before .in-range in
+    while-free (a .self) (sym (is-line .ensures) ∙ not-false _ (if1 .left)) (sym (in-range .ensures) ∙ not-false _ (c .before .before .if2 .left))
+    (c .if3 .taken)
 
 returns-4 : tie.Need-returns-4
-returns-4 c = too-many (c .before .before .before .before .before .before .before .before .before .args .self) (sym (c .before .before .before .before .before .before .before .is-line .ensures) ∙ not-false _ (c .before .before .before .before .before .before .if1 .left)) (sym (c .before .before .before .before .before .in-range .ensures) ∙ not-false _ (c .before .before .before .before .if2 .left)) (c .before .before .if3 .left) (c .if4 .taken)
+returns-4 c =
+    let a = c .before .before .before .before .before .before .before .before .before .args in
+    let is-line = c .before .before .before .before .before .before .before .is-line in
+    let if1 = c .before .before .before .before .before .before .if1 in
+    let in-range = c .before .before .before .before .before .in-range in
+    let if2 = c .before .before .before .before .if2 in
+    too-many (a .self) (sym (is-line .ensures) ∙ not-false _ (if1 .left)) (sym (in-range .ensures) ∙ not-false _ (if2 .left))
+    (c .before .before .if3 .left) (c .if4 .taken)
 
 may-send-requires : tie.Need-may-send-requires
 may-send-requires c κs = search needs
 
 returns-5 : tie.Need-returns-5
-returns-5 c = c .may-send .ensures ∙ while-busy (c .before .before .before .before .before .before .before .before .before .before .args .self) (sym (c .before .before .before .before .before .before .before .before .is-line .ensures) ∙ not-false _ (c .before .before .before .before .before .before .before .if1 .left)) (sym (c .before .before .before .before .before .before .in-range .ensures) ∙ not-false _ (c .before .before .before .before .before .if2 .left)) (c .before .before .before .if3 .left) (c .before .if4 .left)
+returns-5 c =
+    let a = c .before .before .before .before .before .before .before .before .before .before .args in
+    let is-line = c .before .before .before .before .before .before .before .before .is-line in
+    let if1 = c .before .before .before .before .before .before .before .if1 in
+    let in-range = c .before .before .before .before .before .before .in-range in
+    let if2 = c .before .before .before .before .before .if2 in
+    let if3 = c .before .before .before .if3 in
+    c .may-send .ensures
+    ∙ while-busy (a .self) (sym (is-line .ensures) ∙ not-false _ (if1 .left)) (sym (in-range .ensures) ∙ not-false _ (if2 .left)) (if3 .left)
+    (c .before .if4 .left)
 
 pub in-ranges-spec : {M : Type 1} → statement M
 in-ranges-spec =

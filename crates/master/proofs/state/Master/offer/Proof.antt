@@ -18,7 +18,11 @@ refused-requires : tie.Need-refused-requires
 refused-requires c κs = search needs
 
 returns : tie.Need-returns
-returns c = offer-refused (c .before .before .before .before .before .before .args .self) (c .before .before .before .before .before .before .args .at) (c .before .before .before .before .before .before .args .rec) (now (c .before .before .before .before .before .before .args .out)) _ (sym (ap faultOf (c .before .before .check .given .1)) ∙ c .before .before .before .before .call-check .ensures) (c .refused .result) (c .refused .ensures)
+returns c =
+    let a = c .before .before .before .before .before .before .args in
+    let call-check = c .before .before .before .before .call-check in
+    offer-refused (a .self) (a .at) (a .rec) (now (a .out)) _ (sym (ap faultOf (c .before .before .check .given .1)) ∙ call-check .ensures)
+    (c .refused .result) (c .refused .ensures)
 
 enum-told : tie.Need-enum-told
 enum-told c = search needs
@@ -33,22 +37,40 @@ refused-requires-2 : tie.Need-refused-requires-2
 refused-requires-2 c κs = search needs
 
 returns-2 : tie.Need-returns-2
-returns-2 c = offer-barred (c .before .before .before .before .before .before .before .before .before .args .self) (c .before .before .before .before .before .before .before .before .before .args .at) (c .before .before .before .before .before .before .before .before .before .args .rec) (now (c .before .before .before .before .before .before .before .before .before .args .out)) (sym (ap faultOf (c .before .before .before .before .before .enum-told .given .1)) ∙ c .before .before .before .before .before .before .before .call-check .ensures) _ (sym (ap faultOf (c .before .before .offered .given .1)) ∙ c .before .before .before .before .offer-check .ensures) (c .refused2 .result) (c .refused2 .ensures)
+returns-2 c =
+    let a = c .before .before .before .before .before .before .before .before .before .args in
+    let call-check = c .before .before .before .before .before .before .before .call-check in
+    let enum-told = c .before .before .before .before .before .enum-told in
+    let offer-check = c .before .before .before .before .offer-check in
+    offer-barred (a .self) (a .at) (a .rec) (now (a .out)) (sym (ap faultOf (enum-told .given .1)) ∙ call-check .ensures) _
+    (sym (ap faultOf (c .before .before .offered .given .1)) ∙ offer-check .ensures) (c .refused2 .result) (c .refused2 .ensures)
 
 enum-told-2 : tie.Need-enum-told-2
 enum-told-2 c = search needs
 
 send-requires : tie.Need-send-requires
 send-requires c κs =
-    let g = passed (c .before .before .before .before .before .before .before .before .args .self) _ (sym (ap faultOf (c .before .before .before .before .enum-told .given .1)) ∙ c .before .before .before .before .before .before .call-check .ensures) in
-    let o = offer-passed (c .before .before .before .before .before .before .before .before .args .self) (c .before .before .before .before .before .before .before .before .args .rec) (sym (ap faultOf (c .before .enum-told2 .given .1)) ∙ c .before .before .before .offer-check .ensures) in
-    (o .1 .1, (numbered (c .before .before .before .before .before .before .before .before .args .self) (g .0), g .1))
+    let a = c .before .before .before .before .before .before .before .before .args in
+    let call-check = c .before .before .before .before .before .before .call-check in
+    let enum-told = c .before .before .before .before .enum-told in
+    let offer-check = c .before .before .before .offer-check in
+    let g = passed (a .self) _ (sym (ap faultOf (enum-told .given .1)) ∙ call-check .ensures) in
+    let o = offer-passed (a .self) (a .rec) (sym (ap faultOf (c .before .enum-told2 .given .1)) ∙ offer-check .ensures) in
+    (o .1 .1, (numbered (a .self) (g .0), g .1))
 
 same-length : tie.Need-same-length
 same-length c = search needs
 
 returns-3 : tie.Need-returns-3
-returns-3 c = c .before .before .send .ensures ∙ offer-sent (c .before .before .before .before .before .before .before .before .before .before .before .args .self) (c .before .before .before .before .before .before .before .before .before .before .before .args .at) (c .before .before .before .before .before .before .before .before .before .before .before .args .rec) (now (c .before .before .before .before .before .before .before .before .before .before .before .args .out)) (sym (ap faultOf (c .before .before .before .before .before .before .before .enum-told .given .1)) ∙ c .before .before .before .before .before .before .before .before .before .call-check .ensures) (sym (ap faultOf (c .before .before .before .before .enum-told2 .given .1)) ∙ c .before .before .before .before .before .before .offer-check .ensures)
+returns-3 c =
+    let a = c .before .before .before .before .before .before .before .before .before .before .before .args in
+    let call-check = c .before .before .before .before .before .before .before .before .before .call-check in
+    let enum-told = c .before .before .before .before .before .before .before .enum-told in
+    let offer-check = c .before .before .before .before .before .before .offer-check in
+    let enum-told2 = c .before .before .before .before .enum-told2 in
+    c .before .before .send .ensures
+    ∙ offer-sent (a .self) (a .at) (a .rec) (now (a .out)) (sym (ap faultOf (enum-told .given .1)) ∙ call-check .ensures)
+    (sym (ap faultOf (enum-told2 .given .1)) ∙ offer-check .ensures)
 
 pub offer-spec : {M : Type 1} → statement M
 offer-spec =

@@ -16,16 +16,32 @@ by-master-requires : tie.Need-by-master-requires
 by-master-requires c κs = search needs
 
 returns-2 : tie.Need-returns-2
-returns-2 c = not-sent (c .before .before .before .before .before .args .self) (c .before .before .before .before .before .args .rec) (c .before .before .before .if1 .left) (c .before .before .type-of .result) (c .before .before .type-of .ensures) (sym (c .before .by-master .ensures) ∙ not-true _ (c .if2 .taken))
+returns-2 c =
+    let a = c .before .before .before .before .before .args in
+    let if1 = c .before .before .before .if1 in
+    let type-of = c .before .before .type-of in
+    not-sent (a .self) (a .rec) (if1 .left) (type-of .result) (type-of .ensures) (sym (c .before .by-master .ensures) ∙ not-true _ (c .if2 .taken))
 
 permits-record-requires : tie.Need-permits-record-requires
 permits-record-requires c κs = search needs
 
 returns-3 : tie.Need-returns-3
-returns-3 c = not-permitted (c .before .before .before .before .before .before .before .args .self) (c .before .before .before .before .before .before .before .args .rec) (c .before .before .before .before .before .if1 .left) (c .before .before .before .before .type-of .result) (c .before .before .before .before .type-of .ensures) (sym (c .before .before .before .by-master .ensures) ∙ not-false _ (c .before .before .if2 .left)) (sym (c .before .permits-record .ensures) ∙ not-true _ (c .if3 .taken))
+returns-3 c =
+    let a = c .before .before .before .before .before .before .before .args in
+    let if1 = c .before .before .before .before .before .if1 in
+    let type-of = c .before .before .before .before .type-of in
+    let by-master = c .before .before .before .by-master in
+    not-permitted (a .self) (a .rec) (if1 .left) (type-of .result) (type-of .ensures)
+    (sym (by-master .ensures) ∙ not-false _ (c .before .before .if2 .left)) (sym (c .before .permits-record .ensures) ∙ not-true _ (c .if3 .taken))
 
 returns-4 : tie.Need-returns-4
-returns-4 c = offered (c .before .before .before .before .before .before .before .args .self) (c .before .before .before .before .before .before .before .args .rec) (c .before .before .before .before .before .if1 .left) (c .before .before .before .before .type-of .result) (c .before .before .before .before .type-of .ensures) (sym (c .before .before .before .by-master .ensures) ∙ not-false _ (c .before .before .if2 .left)) (sym (c .before .permits-record .ensures) ∙ not-false _ (c .if3 .left))
+returns-4 c =
+    let a = c .before .before .before .before .before .before .before .args in
+    let if1 = c .before .before .before .before .before .if1 in
+    let type-of = c .before .before .before .before .type-of in
+    let by-master = c .before .before .before .by-master in
+    offered (a .self) (a .rec) (if1 .left) (type-of .result) (type-of .ensures) (sym (by-master .ensures) ∙ not-false _ (c .before .before .if2 .left))
+    (sym (c .before .permits-record .ensures) ∙ not-false _ (c .if3 .left))
 
 pub offer-check-spec : {M : Type 1} → statement M
 offer-check-spec =

@@ -18,22 +18,36 @@ run-out-requires : tie.Need-run-out-requires
 run-out-requires c κs = search needs
 
 returns : tie.Need-returns
-returns c = no-poll (c .before .before .before .before .args .self) (c .before .before .before .before .args .at) (now (c .before .before .before .before .args .out)) (c .before .before .t0-limit .result) (c .before .before .t0-limit .ensures) (sym (c .before .run-out .ensures) ∙ not-true _ (c .if1 .taken))
+returns c =
+    let a = c .before .before .before .before .args in
+    let t0-limit = c .before .before .t0-limit in
+    no-poll (a .self) (a .at) (now (a .out)) (t0-limit .result) (t0-limit .ensures) (sym (c .before .run-out .ensures) ∙ not-true _ (c .if1 .taken))
 
 poll-of-requires : tie.Need-poll-of-requires
 poll-of-requires c κs = search needs
 
 send-requires : tie.Need-send-requires
 send-requires c κs =
-    let m = c .before .before .before .before .before .before .args .self in
-    let p : permitsRecord (m .line) (pollOf (m .line)) ≡ true = sendable-permits (m .line) (pollOf (m .line)) (poll-sendable (m .line) (lined m (c .before .before .before .before .before .before .pre .0))) in
-    (ap (permitsRecord (m .line)) (c .before .poll-of .ensures) ∙ p, (numbered m (c .before .before .before .before .before .before .pre .0), c .before .before .before .before .before .before .pre .1))
+    let a = c .before .before .before .before .before .before .args in
+    let pre = c .before .before .before .before .before .before .pre in
+    let m = a .self in
+    let p : permitsRecord (m .line) (pollOf (m .line)) ≡ true =
+    sendable-permits (m .line) (pollOf (m .line)) (poll-sendable (m .line) (lined m (pre .0))) in
+    (ap (permitsRecord (m .line)) (c .before .poll-of .ensures) ∙ p, (numbered m (pre .0), pre .1))
 
 same-length : tie.Need-same-length
 same-length c = search needs
 
 returns-2 : tie.Need-returns-2
-returns-2 c = c .before .before .send .ensures ∙ polled (c .before .before .before .before .before .before .before .before .before .args .self) (c .before .before .before .before .before .before .before .before .before .args .at) (now (c .before .before .before .before .before .before .before .before .before .args .out)) (c .before .before .before .before .before .before .before .t0-limit .result) (c .before .before .before .before .before .before .before .t0-limit .ensures) (sym (c .before .before .before .before .before .before .run-out .ensures) ∙ not-false _ (c .before .before .before .before .before .if1 .left)) (c .before .before .before .before .poll-of .result) (c .before .before .before .before .poll-of .ensures)
+returns-2 c =
+    let a = c .before .before .before .before .before .before .before .before .before .args in
+    let t0-limit = c .before .before .before .before .before .before .before .t0-limit in
+    let run-out = c .before .before .before .before .before .before .run-out in
+    let if1 = c .before .before .before .before .before .if1 in
+    let poll-of = c .before .before .before .before .poll-of in
+    c .before .before .send .ensures
+    ∙ polled (a .self) (a .at) (now (a .out)) (t0-limit .result) (t0-limit .ensures) (sym (run-out .ensures) ∙ not-false _ (if1 .left)) (poll-of .result)
+    (poll-of .ensures)
 
 pub poll-spec : {M : Type 1} → statement M
 poll-spec =

@@ -18,8 +18,13 @@ same-length : tie.Need-same-length
 same-length c = search needs
 
 returns : tie.Need-returns
-returns c = let s = c .before .before .before .before .before .before .before .before in let a = s .args in
-    sent-off (a .sending) (a .self) _ (a .rec) (a .count) (a .at) _ _ (now (a .out)) _ (s .pre .0) (s .pre .1 .0) (s .pre .1 .1) (c .after-sending .ensures) (c .before .before .before .before .before .value .ensures) (c .before .before .before .send .ensures)
+returns c =
+    let s = c .before .before .before .before .before .before .before .before in
+    let value = c .before .before .before .before .before .value in
+    let send = c .before .before .before .send in
+    let a = s .args in
+    sent-off (a .sending) (a .self) _ (a .rec) (a .count) (a .at) _ _ (now (a .out)) _ (s .pre .0) (s .pre .1 .0) (s .pre .1 .1)
+    (c .after-sending .ensures) (value .ensures) (send .ensures)
 
 pub send-spec : {M : Type 1} → statement M
 send-spec =

@@ -51,16 +51,22 @@ same-length : tie.Need-same-length
 same-length c = search needs
 
 returns-3 : tie.Need-returns-3
-returns-3 c = let a = c .before .before .before .before .before .before .before .before .args in
-    c .before .before .fail .ensures ∙ settle-failed (a .self) (a .at) (now (a .out)) (a .verdict) _ (c .before .before .before .before .before .before .with-line .ensures) (c .before .before .before .before .enum-told2 .given .1)
+returns-3 c =
+    let a = c .before .before .before .before .before .before .before .before .args in
+    let with-line = c .before .before .before .before .before .before .with-line in
+    let enum-told2 = c .before .before .before .before .enum-told2 in
+    c .before .before .fail .ensures ∙ settle-failed (a .self) (a .at) (now (a .out)) (a .verdict) _ (with-line .ensures) (enum-told2 .given .1)
 
 returns-4 : tie.Need-returns-4
 returns-4 c = let a = c .before .before .before .before .before .before .args in
     settle-answered (a .self) (a .at) (now (a .out)) (a .verdict) _ (c .before .before .before .before .with-line .ensures) _ (c .before .before .verdict2 .given .1) _ (c .answered .ensures)
 
 returns-5 : tie.Need-returns-5
-returns-5 c = let a = c .before .before .before .before .before .before .args in
-    settle-ended (a .self) (a .at) (now (a .out)) (a .verdict) _ (c .before .before .before .before .with-line .ensures) _ (c .before .before .verdict3 .given .1) (c .other-kind .result) (c .other-kind .ensures)
+returns-5 c =
+    let a = c .before .before .before .before .before .before .args in
+    let with-line = c .before .before .before .before .with-line in
+    settle-ended (a .self) (a .at) (now (a .out)) (a .verdict) _ (with-line .ensures) _ (c .before .before .verdict3 .given .1) (c .other-kind .result)
+    (c .other-kind .ensures)
 
 pub settle-spec : {M : Type 1} → statement M
 settle-spec =

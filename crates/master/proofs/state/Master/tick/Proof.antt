@@ -19,28 +19,53 @@ refused-requires : tie.Need-refused-requires
 refused-requires c κs = search needs
 
 returns : tie.Need-returns
-returns c = tick-refused (c .before .before .before .before .before .before .args .self) (c .before .before .before .before .before .before .args .at) (now (c .before .before .before .before .before .before .args .out)) _ (sym (ap faultOf (c .before .before .check .given .1)) ∙ c .before .before .before .before .call-check .ensures) (c .refused .result) (c .refused .ensures)
+returns c =
+    let a = c .before .before .before .before .before .before .args in
+    let call-check = c .before .before .before .before .call-check in
+    tick-refused (a .self) (a .at) (now (a .out)) _ (sym (ap faultOf (c .before .before .check .given .1)) ∙ call-check .ensures) (c .refused .result)
+    (c .refused .ensures)
 
 enum-told : tie.Need-enum-told
 enum-told c = search needs
 
 poll-requires : tie.Need-poll-requires
-poll-requires c κs = passed (c .before .before .before .before .before .before .before .args .self) _ (sym (ap faultOf (c .before .before .before .enum-told .given .1)) ∙ c .before .before .before .before .before .call-check .ensures)
+poll-requires c κs =
+    let a = c .before .before .before .before .before .before .before .args in
+    let call-check = c .before .before .before .before .before .call-check in
+    let enum-told = c .before .before .before .enum-told in
+    passed (a .self) _ (sym (ap faultOf (enum-told .given .1)) ∙ call-check .ensures)
 
 same-length : tie.Need-same-length
 same-length c = search needs
 
 returns-2 : tie.Need-returns-2
-returns-2 c = c .before .before .poll .ensures ∙ tick-free (c .before .before .before .before .before .before .before .before .before .before .args .self) (c .before .before .before .before .before .before .before .before .before .before .args .at) (now (c .before .before .before .before .before .before .before .before .before .before .args .out)) (sym (ap faultOf (c .before .before .before .before .before .before .enum-told .given .1)) ∙ c .before .before .before .before .before .before .before .before .call-check .ensures) (c .before .before .before .before .if1 .taken)
+returns-2 c =
+    let a = c .before .before .before .before .before .before .before .before .before .before .args in
+    let call-check = c .before .before .before .before .before .before .before .before .call-check in
+    let enum-told = c .before .before .before .before .before .before .enum-told in
+    let if1 = c .before .before .before .before .if1 in
+    c .before .before .poll .ensures
+    ∙ tick-free (a .self) (a .at) (now (a .out)) (sym (ap faultOf (enum-told .given .1)) ∙ call-check .ensures) (if1 .taken)
 
 wait-requires : tie.Need-wait-requires
-wait-requires c κs = let g = passed (c .before .before .before .before .before .before .before .args .self) _ (sym (ap faultOf (c .before .before .before .enum-told .given .1)) ∙ c .before .before .before .before .before .call-check .ensures) in (g .0, (ne-eqb _ _ (c .before .if1 .left), g .1))
+wait-requires c κs =
+    let a = c .before .before .before .before .before .before .before .args in
+    let call-check = c .before .before .before .before .before .call-check in
+    let enum-told = c .before .before .before .enum-told in
+    let g = passed (a .self) _ (sym (ap faultOf (enum-told .given .1)) ∙ call-check .ensures) in
+    (g .0, (ne-eqb _ _ (c .before .if1 .left), g .1))
 
 same-length-2 : tie.Need-same-length-2
 same-length-2 c = search needs
 
 returns-3 : tie.Need-returns-3
-returns-3 c = c .before .before .wait .ensures ∙ tick-busy (c .before .before .before .before .before .before .before .before .before .before .args .self) (c .before .before .before .before .before .before .before .before .before .before .args .at) (now (c .before .before .before .before .before .before .before .before .before .before .args .out)) (sym (ap faultOf (c .before .before .before .before .before .before .enum-told .given .1)) ∙ c .before .before .before .before .before .before .before .before .call-check .ensures) (c .before .before .before .before .if1 .left)
+returns-3 c =
+    let a = c .before .before .before .before .before .before .before .before .before .before .args in
+    let call-check = c .before .before .before .before .before .before .before .before .call-check in
+    let enum-told = c .before .before .before .before .before .before .enum-told in
+    let if1 = c .before .before .before .before .if1 in
+    c .before .before .wait .ensures
+    ∙ tick-busy (a .self) (a .at) (now (a .out)) (sym (ap faultOf (enum-told .given .1)) ∙ call-check .ensures) (if1 .left)
 
 pub tick-spec : {M : Type 1} → statement M
 tick-spec =

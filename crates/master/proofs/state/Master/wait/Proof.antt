@@ -20,8 +20,11 @@ same-length : tie.Need-same-length
 same-length c = search needs
 
 returns-2 : tie.Need-returns-2
-returns-2 c = let a = c .before .before .before .before .before .before .before .args in
-    c .before .before .fail .ensures ∙ silent (a .self) (a .at) (now (a .out)) (sym (c .before .before .before .before .before .run-out .ensures) ∙ not-false _ (c .before .before .before .before .if1 .left))
+returns-2 c =
+    let a = c .before .before .before .before .before .before .before .args in
+    let run-out = c .before .before .before .before .before .run-out in
+    let if1 = c .before .before .before .before .if1 in
+    c .before .before .fail .ensures ∙ silent (a .self) (a .at) (now (a .out)) (sym (run-out .ensures) ∙ not-false _ (if1 .left))
 
 pub wait-spec : {M : Type 1} → statement M
 wait-spec = tie.close (tie.spec run-out-requires returns fail-requires same-length returns-2)
