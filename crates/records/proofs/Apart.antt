@@ -7,7 +7,7 @@ use Rattle.records.specs.declared.refusals.Refusal.{Refusal}
 use Rattle.records.specs.declared.refusals.Refusal.the-variants.{Short, Long, NoStart, Count, NoEnd, Checksum, Number, Kind, Character, Form, Value, NotSent, Range, NoRoom, State, Busy, Full}
 
 -- the refusal of a number and place
-abbrev backOf : No → Refusal
+abbrev pub backOf : No → Refusal
 backOf x =
     cond (eqb (x .number) 1) Short
     (cond (eqb (x .number) 2) Long
@@ -27,7 +27,7 @@ backOf x =
     (cond (eqb (x .number) 16) Busy Full)))))))))))))))
 
 -- each refusal comes back from its number and place
-refusal-back : (x : Refusal) → backOf (refusalOf x) ≡ x
+pub refusal-back : (x : Refusal) → backOf (refusalOf x) ≡ x
 refusal-back Short = refl
 refusal-back Long = refl
 refusal-back NoStart = refl

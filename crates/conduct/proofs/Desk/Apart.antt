@@ -7,7 +7,7 @@ use Rattle.desk.specs.Answers as t
 use Rattle.desk.specs.declared.answers.Outcome as o
 use Rattle.desk.specs.declared.answers.Heard as h
 use Rattle.conduct.specs.Desk.Apart.{OneOutcome, OneHeard}
-use Rattle.conduct.proofs.Back.{backOf, refusal-back}
+use Rattle.records.proofs.Apart.{backOf, refusal-back}
 
 -- the answer of what is told: of a call that hears nothing
 abbrev outcomeBack : Done → o.Outcome

@@ -8,7 +8,7 @@ use Rattle.master.specs.declared.answers.Reason as r
 use Rattle.master.specs.declared.answers.Answer as a
 use Rattle.master.specs.Answers as t
 use Rattle.conduct.specs.Master.Apart.{OneAnswer}
-use Rattle.conduct.proofs.Back.{backOf, refusal-back}
+use Rattle.records.proofs.Apart.{backOf, refusal-back}
 
 -- the answer of what is told: of a reading
 abbrev readingBack : Answer → g.Reading
