@@ -36,7 +36,13 @@ use Rattle.demand3.proofs.Stepwise.{Held, of-held}
 use Rattle.demand3.proofs.Theorem.{demand3}
 
 pub runs : Runs
-unfolding numeralOn numberOn leftOf inSet total checksumOf checkText lineOf forms onLine lookIn typeRow formOf dataType slotsIn countOf slotsOf widthIn widthOf recordOf leadOf isDecimal permits ruled permitsNumber permitsRecord textOf narrow valueOf numberWidth permittedFrom numberFits permitted permitsValue permitsValues countText summedOf fieldOf frameOf f.numberWidth frameChecks dataOf outside wrongLetter badValue valuesIn misshapen fieldChecks recordIn checks readingOf telegramOf runOut sendable inRanges callFault startOf t0Limit pollOf isFailure answersTo permittedAnswer answeredBy judgeOf sentOf sendingOf failedOf offerFault offerOf pollingOf waitingOf tickOf hearOf u.mayReply u.keyFits s.keptFits u.wantedFits s.numbersFit s.recordsFit s.inRanges s.startOf p.losesLine p.notedOf p.tickOf p.recordFault p.queueOf p.setOf p.keyFault p.keyOf r.repeats r.matterIn r.goodFrame r.badFrame r.rulingIn q.keyOn q.polledOf h.faultedOf h.repeatedOf h.handledOf h.heardOf h.hearOf
+unfolding numeralOn numberOn leftOf inSet total checksumOf checkText lineOf forms onLine lookIn typeRow formOf dataType slotsIn countOf slotsOf
+    widthIn widthOf recordOf leadOf isDecimal permits ruled permitsNumber permitsRecord textOf narrow valueOf numberWidth permittedFrom numberFits
+    permitted permitsValue permitsValues countText summedOf fieldOf frameOf f.bodyOf frameChecks dataOf outside wrongLetter badValue valuesIn
+    misshapen fieldChecks recordIn checks readingOf telegramOf runOut sendable inRanges callFault startOf t0Limit pollOf isFailure answersTo
+    permittedAnswer answeredBy judgeOf sentOf sendingOf failedOf offerFault offerOf pollingOf waitingOf tickOf hearOf u.mayReply u.keyFits s.keptFits
+    u.wantedFits s.numbersFit s.recordsFit s.inRanges s.startOf p.losesLine p.notedOf p.tickOf p.recordFault p.queueOf p.setOf p.keyFault p.keyOf
+    r.repeats r.matterIn r.goodFrame r.badFrame r.rulingIn q.keyOn q.polledOf h.faultedOf h.repeatedOf h.handledOf h.heardOf h.hearOf
 runs = (refl, refl, refl, refl, refl, refl, refl, refl)
 
 -- the supposition holds of the first three

@@ -6,7 +6,8 @@ use Prim.Native.Nat.{ℕ}
 use Rattle.laws.proofs.Truths.{clash}
 use Rattle.demand3.specs.History.{Tel, Hist, over, again}
 use Rattle.demand3.specs.Demand.{Promise, Reported, Spoken}
-use Rattle.demand3.specs.Ends.{Did, Said, Ends, Line, Ev, Sys, silent, says, handles, empty, there, back, sys, lineAfter, telAfter, histAfter, noting, lineSaid, histSaid, mdo, ddo, ifRefused, step, run, start, ran, happened}
+use Rattle.demand3.specs.Ends.{Did, Said, Ends, Line, Ev, Sys, silent, says, handles, empty, there, back, sys, lineAfter, telAfter, histAfter}
+use Rattle.demand3.specs.Ends.{noting, lineSaid, histSaid, mdo, ddo, ifRefused, step, run, start, ran, happened}
 use Rattle.demand3.specs.Rules.{Reading, MView, DView, First, MActs, MHears, DHears, bad, frame, free, waits, view, repeatedAnswer}
 use Rattle.demand3.proofs.Stepwise.{Held}
 use Rattle.demand3.proofs.Protocol.{Way, Phase, St, Step, Steps, Safe, histOf, safe-steps, safe-start, promised, stop, then, st, quiet, going, coming, idle, busy}

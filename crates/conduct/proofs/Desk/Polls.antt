@@ -61,7 +61,9 @@ module _ (d : Desk) (f : Fine d) (at n : ℕ) (out : List ℕ) where
   none-wait : d .queued ≡ 0 → waiting d ≡ []
   none-wait q = ap (λ (k : ℕ). take k (d .queue)) q
 
-  pub answers-key : (b : Bool) → d .queued ≡ 0 → (waiting d ≡ []) × (waiting (polled b .0) ≡ []) × Answers (d .line) (Approved (keyOn (d .line) (d .key))) n b (key (keyOn (d .line) (d .key))) out (polled b)
+  pub answers-key : (b : Bool) → d .queued ≡ 0
+      → (waiting d ≡ []) × (waiting (polled b .0) ≡ [])
+      × Answers (d .line) (Approved (keyOn (d .line) (d .key))) n b (key (keyOn (d .line) (d .key))) out (polled b)
   unfolding handledOf sentOf polledOf notedOf keyOn
   answers-key true q = rw (eq-eqb (d .queued) 0 q) (none-wait q, none-wait q, (refl, refl))
   answers-key false q = rw (eq-eqb (d .queued) 0 q) (none-wait q, none-wait q, (refl, refl))

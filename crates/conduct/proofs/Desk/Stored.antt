@@ -138,7 +138,9 @@ stored-telegram line h calls d e n =
 
 pub stored-as-sent : StoredAsSent
 unfolding faultedOf repeatedOf handledOf sentOf
-stored-as-sent d f at frame out noting origin n e = go (hears at frame out) (after d (hears at frame out)) (hearOf d at frame out .2) (does d (f .ranged) (hears at frame out)) (ap (λ (t : Told). heard t (hearOf d at frame out .2)) e)
+stored-as-sent d f at frame out noting origin n e =
+    go (hears at frame out) (after d (hears at frame out)) (hearOf d at frame out .2) (does d (f .ranged) (hears at frame out))
+    (ap (λ (t : Told). heard t (hearOf d at frame out .2)) e)
   where
     go : (call : Call) (turn : Behind) (new : List ℕ) → Does d call turn → turn .1 ≡ heard (h.handled noting origin n) new → (turn .0 .kept ≡ n) × (storedOf (turn .0) ≡ take n new)
     go call turn new (barred x) q = never (cc)

@@ -21,9 +21,14 @@ use Rattle.master.specs.Hearing.{hearOf}
 use Rattle.conduct.specs.Master.Timed.{HearsAt1999, IgnoresAt2000}
 
 pub hears-at-1999 : HearsAt1999
-unfolding numeralOn numberOn leftOf inSet total checksumOf checkText lineOf forms onLine lookIn typeRow formOf dataType slotsIn countOf slotsOf widthIn widthOf recordOf leadOf isDecimal permits ruled permitsNumber permitsRecord textOf narrow valueOf numberWidth permittedFrom numberFits permitted permitsValue permitsValues countText summedOf fieldOf frameChecks outside wrongLetter badValue valuesIn misshapen fieldChecks recordIn checks readingOf runOut sendable inRanges callFault isFailure answersTo permittedAnswer answeredBy judgeOf sentOf sendingOf offerFault offerOf hearOf
+unfolding numeralOn numberOn leftOf inSet total checksumOf checkText lineOf forms onLine lookIn typeRow formOf dataType slotsIn countOf slotsOf
+    widthIn widthOf recordOf leadOf isDecimal permits ruled permitsNumber permitsRecord textOf narrow valueOf numberWidth permittedFrom numberFits
+    permitted permitsValue permitsValues countText summedOf fieldOf frameChecks outside wrongLetter badValue valuesIn misshapen fieldChecks recordIn
+    checks readingOf runOut sendable inRanges callFault isFailure answersTo permittedAnswer answeredBy judgeOf sentOf sendingOf offerFault offerOf hearOf
 hears-at-1999 = refl
 
 pub ignores-at-2000 : IgnoresAt2000
-unfolding numeralOn leftOf inSet lineOf forms onLine lookIn typeRow formOf dataType slotsIn countOf slotsOf leadOf isDecimal permits ruled permitsNumber permitsRecord textOf narrow numberWidth permittedFrom numberFits permitsValue permitsValues runOut sendable inRanges callFault sendingOf offerFault offerOf hearOf
+unfolding numeralOn leftOf inSet lineOf forms onLine lookIn typeRow formOf dataType slotsIn countOf slotsOf leadOf isDecimal permits ruled
+    permitsNumber permitsRecord textOf narrow numberWidth permittedFrom numberFits permitsValue permitsValues runOut sendable inRanges callFault sendingOf
+    offerFault offerOf hearOf
 ignores-at-2000 = refl
