@@ -19,6 +19,7 @@ use Rattle.clock.specs.Clock.{runOut}
 use Rattle.deciding.specs.Deciding as r
 use Rattle.replying.specs.Fitting as u
 use Rattle.replying.specs.Replying as q
+use Rattle.replying.specs.Waiting as k
 use Rattle.judging.specs.Rules.{pollOf, isFailure, answersTo, permittedAnswer}
 use Rattle.judging.specs.Judging.{answeredBy, judgeOf}
 use Rattle.master.specs.State.{sendable, inRanges, callFault, startOf}
@@ -40,7 +41,7 @@ unfolding numeralOn numberOn leftOf inSet total checksumOf checkText lineOf form
     widthIn widthOf recordOf leadOf isDecimal permits ruled permitsNumber permitsRecord textOf narrow valueOf numberWidth permittedFrom numberFits
     permitted permitsValue permitsValues countText summedOf fieldOf frameOf f.bodyOf frameChecks dataOf outside wrongLetter badValue valuesIn
     misshapen fieldChecks recordIn checks readingOf telegramOf runOut sendable inRanges callFault startOf t0Limit pollOf isFailure answersTo
-    permittedAnswer answeredBy judgeOf sentOf sendingOf failedOf offerFault offerOf pollingOf waitingOf tickOf hearOf u.mayReply u.keyFits s.keptFits
+    permittedAnswer answeredBy judgeOf sentOf sendingOf failedOf offerFault offerOf pollingOf waitingOf tickOf hearOf u.mayReply u.keyFits k.keptFits
     u.wantedFits s.numbersFit s.recordsFit s.inRanges s.startOf p.losesLine p.notedOf p.tickOf p.recordFault p.queueOf p.setOf p.keyFault p.keyOf
     r.repeats r.matterIn r.goodFrame r.badFrame r.rulingIn q.keyOn q.polledOf h.faultedOf h.repeatedOf h.handledOf h.heardOf h.hearOf
 runs = (refl, refl, refl, refl, refl, refl, refl, refl)

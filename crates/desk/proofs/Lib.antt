@@ -1,4 +1,4 @@
-pub mod Places
+pub mod Leaving
 pub mod Ranges
 pub mod Calls
 pub mod Permitted

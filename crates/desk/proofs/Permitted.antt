@@ -11,9 +11,9 @@ use Rattle.values.specs.Values.{permitsRecord}
 use Rattle.deciding.specs.Deciding.{What}
 use Rattle.replying.specs.Fitting.{mayReply}
 use Rattle.replying.proofs.Permitted.{reply-permitted}
-use Rattle.desk.specs.State.{blank, waitingFits}
+use Rattle.replying.specs.Waiting.{blank, waitingFits}
 use Rattle.desk.specs.Queue.{oldest, replyTo}
-use Rattle.desk.specs.declared.state.Waiting.{Waiting}
+use Rattle.replying.specs.declared.waiting.Waiting.{Waiting}
 use Rattle.desk.specs.declared.state.Desk.{Desk}
 use Rattle.desk.proofs.Ranges.{Fits}
 

@@ -15,7 +15,8 @@ use Rattle.characters.specs.Marks.{shortest, longest}
 use Rattle.desk.specs.declared.state.Desk.{Desk}
 use Rattle.desk.specs.Panel.{notedOf}
 use Rattle.replying.specs.Fitting.{keyFits, wantedFits}
-use Rattle.desk.specs.State.{waitingFits, keptFits, numbersFit, recordsFit, inRanges}
+use Rattle.replying.specs.Waiting.{waitingFits, keptFits}
+use Rattle.desk.specs.State.{numbersFit, recordsFit, inRanges}
 
 pub bad-line : (d : Desk) → isLine (d .line) ≡ false → false ≡ numbersFit d
 unfolding numbersFit
@@ -44,11 +45,6 @@ bad-wanted d h = sym (both-off (keptFits (d .good) (d .kept)) _ (rw h))
 pub records-by-queue : (d : Desk) → keptFits (d .good) (d .kept) ≡ true → wantedFits (d .line) (d .requested) ≡ true → every (waitingFits (d .line)) (take (d .queued) (d .queue)) ≡ recordsFit d
 unfolding recordsFit
 records-by-queue d h k = rw (h, k)
-
--- at most 8 are queued where the numbers are in their ranges
-pub few-queued : (d : Desk) → numbersFit d ≡ true → d .queued ≤ 8
-unfolding numbersFit
-few-queued d h = leb-true (d .queued) 8 (both-left _ (keyFits (d .line) (d .key)) (both-right (inRange (d .last .0)) _ (both-right (isLine (d .line)) _ h)))
 
 pub bad-numbers : (d : Desk) → numbersFit d ≡ false → false ≡ inRanges d
 unfolding inRanges

@@ -16,7 +16,7 @@ use Rattle.forms.specs.Lines.{lineOf, isKey}
 use Rattle.replying.specs.declared.replying.Wanted.the-variants.{Is}
 use Rattle.desk.specs.Answers.{Done, done, lost, refused}
 use Rattle.desk.specs.State.{inRanges}
-use Rattle.desk.specs.declared.state.Waiting.{Waiting}
+use Rattle.replying.specs.declared.waiting.Waiting.{Waiting}
 use Rattle.desk.specs.declared.state.Desk.{Desk}
 
 -- T1 is 28,000

@@ -1,13 +1,11 @@
 -- The queue of the desk: its oldest record answers t and leaves it (01 'Link rules', 'Desk'). Assumes nothing.
-use Prim.Native.Nat.{ℕ, _-_}
-use mathlib.Core.List.{List, [], _∷_}
+use Prim.Native.Nat.{_-_}
 use lib.ListN.{getD}
 use Rattle.records.specs.declared.records.Record.{Record}
 use Rattle.deciding.specs.Deciding.{What}
 use Rattle.replying.specs.Replying.{Origin, requested, queue, key, panel, contents, notMaster, nothingSet, Reply, replyOf}
-use Rattle.desk.specs.State.{blank}
+use Rattle.replying.specs.Waiting.{blank, shifted}
 use Rattle.desk.specs.Panel.{withQueue}
-use Rattle.desk.specs.declared.state.Waiting.{Waiting}
 use Rattle.desk.specs.declared.state.Desk.{Desk}
 
 -- the oldest queued record
@@ -17,13 +15,6 @@ oldest d = getD (d .queue) 0 blank .rec
 -- the answer of a desk to a handled telegram
 abbrev pub replyTo : Desk → What → Reply
 replyTo d what = replyOf (d .line) (d .key) (d .requested) (d .queued) (oldest d) what
-
--- the places of a queue without the oldest, each one nearer; the last stands twice
-abbrev pub shifted : List Waiting → List Waiting
-shifted q = at 1 ∷ at 2 ∷ at 3 ∷ at 4 ∷ at 5 ∷ at 6 ∷ at 7 ∷ at 7 ∷ []
-  where
-    at : ℕ → Waiting
-    at i = getD q i blank
 
 -- the oldest queued record leaves the queue
 abbrev pub popped : Desk → Desk

@@ -2,28 +2,19 @@
 use Prim.Native.Nat.{ℕ}
 use Prim.Native.Char.{code}
 use mathlib.Core.List.{List}
-use mathlib.Core.Bool.{Bool, false, cond, not}
-use lib.Dec.{leb, eqb}
+use mathlib.Core.Bool.{Bool, false, cond}
+use lib.Dec.{leb}
 use lib.ListN.{take, replicate}
-use Rattle.laws.specs.Truth.{both, from, every}
+use Rattle.laws.specs.Truth.{both, every}
 use Rattle.forms.specs.Lines.{isLine}
-use Rattle.records.specs.declared.records.Record.the-variants.{Approved}
 use Rattle.clock.specs.Counters.{inRange}
-use Rattle.characters.specs.Marks.{shortest, longest}
+use Rattle.characters.specs.Marks.{longest}
 use Rattle.records.specs.Refusals.{no}
-use Rattle.replying.specs.Fitting.{mayReply, keyFits, wantedFits}
+use Rattle.replying.specs.Fitting.{keyFits, wantedFits}
+use Rattle.replying.specs.Waiting.{waitingFits, keptFits, blank}
 use Rattle.replying.specs.declared.replying.Wanted.the-variants.{None}
 use Rattle.desk.specs.Answers.{Done, done, refused}
-use Rattle.desk.specs.declared.state.Waiting.{Waiting}
 use Rattle.desk.specs.declared.state.Desk.{Desk}
-
--- a record that waits may reply on a line
-abbrev pub waitingFits : ℕ → Waiting → Bool
-waitingFits line w = mayReply line (w .rec)
-
--- a stored answer has 10 to 66 bytes; there is none only while the line is lost
-unfoldable pub keptFits : Bool → ℕ → Bool
-keptFits good kept = cond (eqb kept 0) (not good) (from shortest longest kept)
 
 -- line 1 to 3; number 0 or 1; at most 8 queued; the key position one of the line
 unfoldable pub numbersFit : Desk → Bool
@@ -40,10 +31,6 @@ inRanges d = both (numbersFit d) (recordsFit d)
 -- the stored answer's bytes
 abbrev pub storedOf : Desk → List ℕ
 storedOf d = take (d .kept) (d .stored)
-
--- what stands in a place of the queue before any record does
-abbrev pub blank : Waiting
-blank = record { rec = Approved 0 }
 
 -- starts with the line lost, last number 0, no stored answer, T1's start at 0, an empty queue, no requested record and key position A
 abbrev pub fresh : ℕ → Desk

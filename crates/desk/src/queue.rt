@@ -2,27 +2,13 @@
 ghost use mathlib.Core.Path.{_≡_};
 ghost use Rattle.deciding.specs.Deciding.{matterOf};
 ghost use Rattle.replying.specs.Replying.{originOf};
-ghost use Rattle.desk.specs.Queue.{shifted, popped, takenBy, replyTo};
+ghost use Rattle.desk.specs.Queue.{popped, takenBy, replyTo};
 use crate::state::Desk;
-use crate::state::Waiting;
 use deciding::deciding::Matter;
 use replying::replying::Reply;
 use replying::replying::Source;
 use replying::replying::choose;
-
-// The places of a queue without the oldest, each one nearer; the last stands twice.
-fn shift(q: [Waiting; 8]) -> [Waiting; 8]
-    ensures { λ r. ⌜ r ≡ shifted q ⌝ }
-{
-    let b = q[1];
-    let c = q[2];
-    let d = q[3];
-    let e = q[4];
-    let f = q[5];
-    let g = q[6];
-    let h = q[7];
-    [b, c, d, e, f, g, h, h]
-}
+use replying::waiting::shift;
 
 impl Desk {
     // The oldest queued record leaves the queue; the others move up.

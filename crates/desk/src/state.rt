@@ -1,13 +1,9 @@
 // The desk's state, its ranges and its start (01 'Link rules', 'Desk'; 'Numbered answers', 15).
 ghost use mathlib.Core.Path.{_≡_};
-ghost use Prim.Native.Nat.{_≤_};
-ghost use lib.ListN.{take};
-ghost use Rattle.laws.specs.Truth.{every};
 ghost use Rattle.desk.specs.Answers.{outcomeOf};
-ghost use Rattle.desk.specs.State.{waitingFits, keptFits, numbersFit, recordsFit, inRanges, fresh, startOf};
+ghost use Rattle.desk.specs.State.{numbersFit, recordsFit, inRanges, fresh, startOf};
 use crate::answers::Outcome;
 use characters::marks::LONGEST;
-use characters::marks::SHORTEST;
 use clock::counters::LastTaken;
 use forms::lines::is_line;
 use records::records::Record;
@@ -16,11 +12,9 @@ use replying::fitting::key_fits;
 use replying::fitting::may_reply;
 use replying::fitting::wanted_fits;
 pub use replying::replying::Wanted;
-
-// A record that waits in the queue.
-pub struct Waiting {
-    pub rec: Record,
-}
+pub use replying::waiting::Waiting;
+use replying::waiting::kept_fits;
+use replying::waiting::queue_fits;
 
 // Its line; whether the line is good; the last number taken; T1's start; the stored answer's length and bytes; the record set for r;
 // the queue's count and places, the oldest first; the key position.
@@ -43,36 +37,6 @@ pub struct Step {
     pub answer: Outcome,
 }
 
-// Whether a stored answer's length is one: 0 while the line is lost, or 10 to 66.
-fn kept_fits(good: bool, kept: usize) -> bool
-    ensures { λ r. ⌜ r ≡ keptFits good kept ⌝ }
-{
-    if kept == 0 {
-        return !good;
-    }
-    if kept < SHORTEST {
-        return false;
-    }
-    kept < LONGEST + 1
-}
-
-// Whether each of the first n queued records may answer t on a line.
-fn queue_fits(line: u8, queue: [Waiting; 8], n: usize) -> bool
-    requires { ⌜ n ≤ 8 ⌝ }
-    ensures { λ r. ⌜ r ≡ every (waitingFits line) (take n queue) ⌝ }
-{
-    let mut i: usize = 0;
-    while i < n {
-        let waiting = queue[i];
-        let rec = waiting.rec;
-        if !may_reply(line, rec) {
-            return false;
-        }
-        i = i + 1;
-    }
-    true
-}
-
 impl Desk {
     // Whether line, number, count and key are in their ranges.
     fn numbers_fit(self) -> bool
@@ -93,7 +57,6 @@ impl Desk {
 
     // Whether the stored answer's length and the records are.
     fn records_fit(self) -> bool
-        requires { ⌜ self .queued ≤ 8 ⌝ }
         ensures { λ r. ⌜ r ≡ recordsFit self ⌝ }
     {
         let wanted = self.requested;

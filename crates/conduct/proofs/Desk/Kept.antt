@@ -22,7 +22,8 @@ use Rattle.replying.specs.declared.replying.Wanted.{Wanted}
 use Rattle.replying.specs.declared.replying.Wanted.the-variants.{None, Is}
 use Rattle.desk.specs.Answers.{done, lost, silent, fault, repeat}
 use Rattle.desk.specs.Answers as h
-use Rattle.desk.specs.State.{waitingFits, keptFits, numbersFit, recordsFit, inRanges, fresh, startOf}
+use Rattle.replying.specs.Waiting.{waitingFits, keptFits}
+use Rattle.desk.specs.State.{numbersFit, recordsFit, inRanges, fresh, startOf}
 use Rattle.desk.specs.Panel.{losesLine, notedOf, withQueued, withRequested, withKey, tickOf, queueOf, setOf, keyOf}
 use Rattle.desk.specs.Queue.{replyTo, popped, takenBy}
 use Rattle.desk.specs.Hearing.{withStored, marked, restarted, faultedOf, repeatedOf, handledOf, hearOf}

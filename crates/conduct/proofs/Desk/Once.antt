@@ -24,11 +24,12 @@ use Rattle.replying.specs.declared.replying.Wanted.the-variants.{None, Is}
 use Rattle.records.specs.Refusals.{No}
 use Rattle.desk.specs.Answers.{Done, done, lost, silent, fault, repeat, handled}
 use Rattle.desk.specs.Answers as h
-use Rattle.desk.specs.State.{blank, startOf}
+use Rattle.desk.specs.State.{startOf}
 use Rattle.desk.specs.Panel.{losesLine, notedOf, withQueued}
 use Rattle.desk.specs.Queue.{oldest, replyTo}
 use Rattle.desk.specs.Hearing.{Hearing, faultedOf, repeatedOf, handledOf}
-use Rattle.desk.specs.declared.state.Waiting.{Waiting}
+use Rattle.replying.specs.Waiting.{blank}
+use Rattle.replying.specs.declared.waiting.Waiting.{Waiting}
 use Rattle.desk.specs.declared.state.Desk.{Desk}
 use Rattle.replying.proofs.Permitted.{reply-allowed}
 use Rattle.desk.proofs.Permitted.{oldest-replies}

@@ -29,11 +29,11 @@ use Rattle.replying.specs.Replying.{Origin, queue, key, askedOf, keyOn, polledO
 use Rattle.replying.specs.declared.replying.Wanted.{Wanted}
 use Rattle.replying.specs.declared.replying.Wanted.the-variants.{None, Is}
 use Rattle.desk.specs.Answers.{handled}
-use Rattle.desk.specs.State.{blank}
+use Rattle.replying.specs.Waiting.{blank, shifted}
 use Rattle.desk.specs.Panel.{losesLine, notedOf}
-use Rattle.desk.specs.Queue.{oldest, replyTo, shifted, takenBy}
+use Rattle.desk.specs.Queue.{oldest, replyTo, takenBy}
 use Rattle.desk.specs.Hearing.{Hearing, faultedOf, repeatedOf, handledOf, appliedOf, ruling, hearOf}
-use Rattle.desk.specs.declared.state.Waiting.{Waiting}
+use Rattle.replying.specs.declared.waiting.Waiting.{Waiting}
 use Rattle.desk.specs.declared.state.Desk.{Desk}
 use Rattle.conduct.specs.Desk.Calls.{noted, Fine}
 use Rattle.conduct.specs.Desk.Polls.{waiting, Answers, Same, PollsByT, TPolls, PollOldest, PollEmpty, OthersLeave}

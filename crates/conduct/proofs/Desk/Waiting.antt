@@ -9,9 +9,8 @@ use lib.ListN.{length, getD, take, drop, set, length-drop, drop-of-length-le}
 use lib.Seq.{drop-cons, take-nil, take-append-le, take-suc-set}
 use Rattle.laws.specs.Truth.{every}
 use Rattle.laws.proofs.Truths.{both-left, both-right, both-true}
-use Rattle.desk.specs.State.{blank}
-use Rattle.desk.specs.Queue.{shifted}
-use Rattle.desk.specs.declared.state.Waiting.{Waiting}
+use Rattle.replying.specs.Waiting.{blank, shifted}
+use Rattle.replying.specs.declared.waiting.Waiting.{Waiting}
 use Rattle.desk.specs.declared.state.Desk.{Desk}
 
 -- a place filled behind those that are queued

@@ -12,7 +12,7 @@ use Rattle.replying.specs.Replying.{Origin, requested, queue, key, panel, conte
 use Rattle.desk.specs.Answers.{done, lost, silent, fault, repeat, handled}
 use Rattle.desk.specs.Answers as h
 use Rattle.desk.specs.State.{startOf}
-use Rattle.desk.specs.declared.state.Waiting.{Waiting}
+use Rattle.replying.specs.declared.waiting.Waiting.{Waiting}
 use Rattle.desk.specs.declared.state.Desk.{Desk}
 use Rattle.conduct.specs.Desk.Calls.{Call, ticks, queues, sets, turns, hears, Answered, did, heard, after, run}
 use Rattle.conduct.specs.Desk.Polls.{waiting}

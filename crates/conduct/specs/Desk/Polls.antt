@@ -16,11 +16,11 @@ use Rattle.characters.specs.Marks.{longest}
 use Rattle.deciding.specs.Deciding.{poll, handle, repeats, rulingIn}
 use Rattle.replying.specs.Replying.{Origin, queue, key, keyOn}
 use Rattle.desk.specs.Answers.{handled}
-use Rattle.desk.specs.State.{blank}
+use Rattle.replying.specs.Waiting.{blank}
 use Rattle.desk.specs.Panel.{losesLine}
 use Rattle.desk.specs.Queue.{oldest}
 use Rattle.desk.specs.Hearing.{Hearing, ruling, hearOf}
-use Rattle.desk.specs.declared.state.Waiting.{Waiting}
+use Rattle.replying.specs.declared.waiting.Waiting.{Waiting}
 use Rattle.desk.specs.declared.state.Desk.{Desk}
 use Rattle.conduct.specs.Desk.Calls.{Fine, noted}
 

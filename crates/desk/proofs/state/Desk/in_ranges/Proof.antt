@@ -1,5 +1,5 @@
 -- `desk::state::Desk::in_ranges` meets its contract. Assumes nothing.
-use Rattle.desk.proofs.Ranges.{few-queued, bad-numbers, ranges-by-records}
+use Rattle.desk.proofs.Ranges.{bad-numbers, ranges-by-records}
 use mathlib.Core.Path.{sym, _∙_}
 use borrow.Author.Needs.{needs}
 use Rattle.desk.proofs.state.Desk.in_ranges.Statement.{statement}
@@ -9,7 +9,7 @@ numbers-fit-requires : tie.Need-numbers-fit-requires
 numbers-fit-requires c κs = search needs
 
 records-fit-requires : tie.Need-records-fit-requires
-records-fit-requires c κs = few-queued (c .before .before .args .self) (sym (c .before .numbers-fit .ensures) ∙ c .if1 .taken)
+records-fit-requires c κs = search needs
 
 returns : tie.Need-returns
 returns c = c .records-fit .ensures ∙ ranges-by-records (c .before .before .before .args .self) (sym (c .before .before .numbers-fit .ensures) ∙ c .before .if1 .taken)

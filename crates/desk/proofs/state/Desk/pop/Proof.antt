@@ -1,5 +1,5 @@
 -- `desk::state::Desk::pop` meets its contract. Assumes nothing.
-use Rattle.desk.proofs.Places.{popped-by}
+use Rattle.desk.proofs.Leaving.{popped-by}
 use native.Mathlib.Omega.{arith}
 use borrow.Author.Needs.{needs}
 use Rattle.desk.proofs.state.Desk.pop.Statement.{statement}

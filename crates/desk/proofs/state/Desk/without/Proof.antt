@@ -1,5 +1,5 @@
 -- `desk::state::Desk::without` meets its contract. Assumes nothing.
-use Rattle.desk.proofs.Places.{other-source}
+use Rattle.desk.proofs.Leaving.{other-source}
 use borrow.Author.Needs.{needs}
 use Rattle.desk.proofs.state.Desk.without.Statement.{statement}
 use Rattle.desk.proofs.state.Desk.without.Tie as tie

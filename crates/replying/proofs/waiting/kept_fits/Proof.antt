@@ -1,9 +1,9 @@
--- `desk::state::kept_fits` meets its contract. Assumes nothing.
-use Rattle.desk.specs.State.{keptFits}
+-- `replying::waiting::kept_fits` meets its contract. Assumes nothing.
+use Rattle.replying.specs.Waiting.{keptFits}
 use Rattle.laws.proofs.Tests.{tests}
 use borrow.Author.Needs.{needs}
-use Rattle.desk.proofs.state.kept_fits.Statement.{statement}
-use Rattle.desk.proofs.state.kept_fits.Tie as tie
+use Rattle.replying.proofs.waiting.kept_fits.Statement.{statement}
+use Rattle.replying.proofs.waiting.kept_fits.Tie as tie
 
 returns : tie.Need-returns
 unfolding keptFits
