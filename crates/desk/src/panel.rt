@@ -3,7 +3,7 @@ ghost use mathlib.Core.Path.{_≡_};
 ghost use Prim.Native.Nat.{_<_};
 ghost use Rattle.reading.specs.Answers.{faultOf};
 ghost use Rattle.desk.specs.Answers.{outcomeOf};
-ghost use Rattle.desk.specs.Panel.{losesLine, notedOf, withQueued, withRequested, withKey, recordFault, keyFault, tickOf, queueOf, setOf, keyOf};
+ghost use Rattle.desk.specs.Panel.{losesLine, notedOf, withQueued, withRequested, recordFault, keyFault, tickOf, queueOf, setOf, keyOf};
 use crate::answers::Outcome;
 use crate::state::Desk;
 use crate::state::Step;
@@ -173,15 +173,6 @@ impl Desk {
         Check::Good
     }
 
-    // The state with another key position.
-    fn with_key(self, key: u8) -> Desk
-        ensures { λ r. ⌜ r ≡ withKey self key ⌝ }
-    {
-        let mut d = self;
-        d.key = key;
-        d
-    }
-
     // The panel's key position: A, X or Y on a line that has one.
     pub fn turn_key(self, key: u8) -> Step
         ensures { λ r. ⌜ (r .desk, outcomeOf (r .answer)) ≡ keyOf self key ⌝ }
@@ -193,8 +184,10 @@ impl Desk {
                 answer: Outcome::Refused(refusal),
             };
         }
+        let mut d = self;
+        d.key = key;
         Step {
-            desk: self.with_key(key),
+            desk: d,
             answer: Outcome::Done,
         }
     }

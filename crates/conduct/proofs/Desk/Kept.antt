@@ -20,7 +20,7 @@ use Rattle.replying.specs.Fitting.{mayReply, keyFits, wantedFits}
 use Rattle.replying.specs.Replying.{askedOf, polledOf}
 use Rattle.replying.specs.declared.replying.Wanted.{Wanted}
 use Rattle.replying.specs.declared.replying.Wanted.the-variants.{None, Is}
-use Rattle.desk.specs.Answers.{done, lost, silent, fault, repeat}
+use Rattle.desk.specs.Answers.{done, lost, fault, repeat}
 use Rattle.desk.specs.Answers as h
 use Rattle.replying.specs.Waiting.{waitingFits, keptFits}
 use Rattle.desk.specs.State.{numbersFit, recordsFit, inRanges, fresh, startOf}

@@ -7,22 +7,21 @@ use native.Mathlib.Omega.{arith}
 use lib.Dec.{eqb}
 use lib.ListN.{length, getD, take, drop}
 use lib.Seq.{take-append-seam}
-use borrow.Author.Tests.{eqb-true, eqb-false, ne-eqb}
+use borrow.Author.Tests.{eqb-true, eqb-false}
 use Rattle.laws.proofs.Passes.{on-test}
 use Rattle.forms.specs.Lines.{isLine}
 use Rattle.records.specs.declared.records.Record.{Record}
 use Rattle.values.specs.Values.{permitsRecord}
 use Rattle.reading.specs.Answers as w
-use Rattle.reading.specs.Reading.{readingOf}
 use Rattle.writing.specs.Writing.{telegramOf}
 use Rattle.roundtrips.proofs.Trips.{written-reads}
 use Rattle.deciding.specs.Deciding.{What, request, poll, other}
 use Rattle.deciding.specs.Deciding as r
-use Rattle.replying.specs.Replying.{Origin, requested, queue, key, panel, contents, notMaster, nothingSet, askedOf, polledOf}
+use Rattle.replying.specs.Replying.{requested, queue, key, contents, notMaster, askedOf}
 use Rattle.replying.specs.declared.replying.Wanted.{Wanted}
 use Rattle.replying.specs.declared.replying.Wanted.the-variants.{None, Is}
 use Rattle.records.specs.Refusals.{No}
-use Rattle.desk.specs.Answers.{Done, done, lost, silent, fault, repeat, handled}
+use Rattle.desk.specs.Answers.{Done, done, fault, repeat, handled}
 use Rattle.desk.specs.Answers as h
 use Rattle.desk.specs.State.{startOf}
 use Rattle.desk.specs.Panel.{losesLine, notedOf, withQueued}

@@ -6,7 +6,7 @@ use Prim.Native.Nat.{ℕ, _-_, _≤_}
 use Prim.Native.Char.{code}
 use native.Mathlib.Omega.{arith}
 use lib.Dec.{leb, eqb}
-use lib.ListN.{length, getD, take, drop}
+use lib.ListN.{length, getD, take}
 use borrow.Author.Tests.{leb-true, leb-false, eq-eqb, ne-eqb, eqb-true}
 use Rattle.laws.specs.Truth.{from}
 use Rattle.laws.proofs.Passes.{on-test}
@@ -20,12 +20,12 @@ use Rattle.records.specs.Refusals.{No}
 use Rattle.reading.specs.Answers.{Answer, accepted}
 use Rattle.reading.specs.Answers as w
 use Rattle.reading.specs.Reading.{readingOf}
-use Rattle.writing.specs.Writing.{telegramOf, sentOf}
+use Rattle.writing.specs.Writing.{sentOf}
 use Rattle.characters.specs.Marks.{longest}
 use Rattle.clock.specs.Counters.{isNumber, numberIn}
 use Rattle.deciding.specs.Deciding.{Ruling, silent, fault, repeat, handle, What, contents, notMaster, request, poll, other, repeats, matterIn, goodFrame, badFrame, ruledBy, rulingIn}
 use Rattle.deciding.proofs.Rulings.{a-poll, good-handled, when-accepted}
-use Rattle.replying.specs.Replying.{Origin, queue, key, askedOf, keyOn, polledOf}
+use Rattle.replying.specs.Replying.{queue, key, askedOf, keyOn, polledOf}
 use Rattle.replying.specs.declared.replying.Wanted.{Wanted}
 use Rattle.replying.specs.declared.replying.Wanted.the-variants.{None, Is}
 use Rattle.desk.specs.Answers.{handled}

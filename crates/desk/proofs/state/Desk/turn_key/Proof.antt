@@ -1,7 +1,7 @@
 -- `desk::state::Desk::turn_key` meets its contract. Assumes nothing.
 use Rattle.desk.proofs.Calls.{key-refused, key-done}
 use Rattle.reading.specs.Answers.{faultOf}
-use mathlib.Core.Path.{sym, ap, _∙_}
+use mathlib.Core.Path.{refl, sym, ap, _∙_}
 use borrow.Author.Needs.{needs}
 use Rattle.desk.proofs.state.Desk.turn_key.Statement.{statement}
 use Rattle.desk.proofs.state.Desk.turn_key.Tie as tie
@@ -21,16 +21,13 @@ returns c =
 enum-told : tie.Need-enum-told
 enum-told c = search needs
 
-with-key-requires : tie.Need-with-key-requires
-with-key-requires c κs = search needs
-
 returns-2 : tie.Need-returns-2
 returns-2 c =
-    let a = c .before .before .before .before .args in
-    let key-check = c .before .before .before .key-check in
-    key-done (a .self) (a .key) (sym (ap faultOf (c .before .enum-told .given .1)) ∙ key-check .ensures) _ (c .with-key .ensures)
+    let a = c .before .before .before .args in
+    let key-check = c .before .before .key-check in
+    key-done (a .self) (a .key) (sym (ap faultOf (c .enum-told .given .1)) ∙ key-check .ensures) _ refl
 
 pub turn-key-spec : {M : Type 1} → statement M
 turn-key-spec =
     tie.close
-    (tie.spec key-check-requires enum-known-check returns enum-told with-key-requires returns-2)
+    (tie.spec key-check-requires enum-known-check returns enum-told returns-2)
