@@ -2,99 +2,53 @@
 use crate::rows;
 use crate::rows::Call;
 use crate::show;
-use crate::words;
 use characters::slices::part;
 use clock::counters::LastTaken;
 use desk::answers::Heard;
-use desk::answers::Outcome;
-use desk::answers::Source;
 use desk::applying::Hearing;
 use desk::state::Desk;
 use desk::state::Step;
 use desk::state::Waiting;
 use desk::state::Wanted;
-use records::refusals::Refusal;
+use tellings::desks::put_heard;
+use tellings::desks::put_outcome;
+use text::fields::word_value;
+use text::items::put_record;
+use text::putting::put_byte;
+use text::putting::put_text;
 
 // The state: line, last number taken, queued records.
-fn state(d: Desk) {
-    let last = d.last;
-    show::line(d.good);
-    show::small(words::LAST, last.0);
-    show::number(words::QUEUED, d.queued as u64);
-    show::end();
+fn end(out: &mut [u8], at: usize, good: bool, last: u8, queued: usize) {
+    let a = show::line(out, at, good);
+    let b = show::number(out, a, b", last ", last as u64);
+    let c = show::number(out, b, b", queued ", queued as u64);
+    show::end(out, c);
 }
 
-fn outcome(answer: Outcome) {
-    match answer {
-        Outcome::Done => words::say(words::DONE),
-        Outcome::Lost => words::say(words::LOST),
-        Outcome::Refused(r) => show::refusal(words::INDENT, r),
-    }
+// What was heard, and what was sent.
+fn heard(out: &mut [u8], row: &[u8], answer: Heard, sent: &[u8; 128]) -> usize {
+    let a = show::begin(out, row);
+    let b = put_heard(out, a, answer);
+    show::output(out, b, sent)
 }
 
-// Where an answer comes from.
-fn source(s: Source) {
-    match s {
-        Source::Requested => words::say(words::REQUESTED),
-        Source::Queue => words::say(words::QUEUE),
-        Source::Key(key) => show::character(words::KEY, key),
-        Source::Panel(rec) => show::record(words::PANEL, rec),
-        Source::Contents(r) => show::refusal(words::CONTENTS, r),
-        Source::NotMaster => words::say(words::FOREIGN),
-        Source::NothingSet => words::say(words::UNSET),
-    }
-}
-
-// Whether this call noted the line lost.
-fn noted(lost: bool) {
-    words::say(if lost { words::NOTED } else { words::INDENT });
-}
-
-fn silent(lost: bool, r: Refusal) {
-    noted(lost);
-    show::refusal(words::SILENT, r);
-}
-
-fn fault(lost: bool, n: usize) {
-    noted(lost);
-    show::sent(words::FAULT, n);
-}
-
-fn handled(lost: bool, s: Source, n: usize) {
-    noted(lost);
-    words::say(words::HANDLED);
-    source(s);
-    show::sent(words::COMMA, n);
-}
-
-fn heard(answer: Heard) {
-    match answer {
-        Heard::Refused(r) => show::refusal(words::INDENT, r),
-        Heard::Silent(lost, r) => silent(lost, r),
-        Heard::Fault(lost, n) => fault(lost, n),
-        Heard::Repeat(n) => show::sent(words::REPEAT, n),
-        Heard::Handled(lost, s, n) => handled(lost, s, n),
-    }
-}
-
-// Says what was heard, what the output holds and the state behind it.
-fn told(hearing: Hearing, out: &mut [u8; 128]) -> Desk {
-    let after = hearing.desk;
+fn told(hearing: Hearing, row: &[u8], sent: &[u8; 128], out: &mut [u8]) -> Desk {
+    let desk = hearing.desk;
     let answer = hearing.answer;
-    heard(answer);
-    show::output(out);
-    state(after);
-    after
+    let last = desk.last;
+    let a = heard(out, row, answer, sent);
+    end(out, a, desk.good, last.0, desk.queued);
+    desk
 }
 
-fn hear(d: Desk, row: &[u8]) -> Desk {
+fn hear(d: Desk, row: &[u8], out: &mut [u8]) -> Desk {
     let room = rows::room(row);
     let frame = rows::heard(row, 4);
     let bytes = frame.bytes;
-    let at = rows::number(row, 2);
-    let mut out = [b'#'; 128];
-    let hearing = d.hear(at, part(&bytes, 0, frame.n), &mut out[..room]);
-    told(hearing, &mut out)
+    let time = word_value(row, 2);
+    let mut sent = [b'#'; 128];
+    let hearing = d.hear(time, part(&bytes, 0, frame.n), &mut sent[..room]);
+    told(hearing, row, &sent, out)
 }
 
 // The state with one of its numbers as a row says, which may be out of its range.
@@ -114,42 +68,72 @@ fn altered(d: Desk, field: usize, value: u32) -> Desk {
     e
 }
 
-fn alter(d: Desk, row: &[u8]) -> Desk {
-    let e = altered(d, rows::altered_field(row), rows::number(row, 3));
-    words::say(words::ALTERED);
-    state(e);
-    e
+fn alter(d: Desk, row: &[u8], out: &mut [u8]) -> Desk {
+    let desk = altered(d, rows::altered_field(row), word_value(row, 3));
+    let last = desk.last;
+    let a = show::begin(out, row);
+    let b = put_text(out, a, b"altered");
+    end(out, b, desk.good, last.0, desk.queued);
+    desk
 }
 
-fn requested(wanted: Wanted) {
+fn requested(out: &mut [u8], at: usize, wanted: Wanted) -> usize {
     match wanted {
-        Wanted::None => {}
-        Wanted::Is(rec) => show::record(words::SET, rec),
-    }
-}
-
-fn waiting(queue: [Waiting; 8], queued: usize) {
-    for j in 0..8 {
-        if j < queued {
-            let slot = queue[j];
-            let rec = slot.rec;
-            show::record(words::WAITS, rec);
+        Wanted::None => at,
+        Wanted::Is(rec) => {
+            let a = put_text(out, at, b", set ");
+            put_record(out, a, rec)
         }
     }
 }
 
-// The rest of the state: its line, T1's start, the key position, the stored answer, the record set for r, those that wait.
-fn whole(d: Desk) -> Desk {
-    let mut stored = d.stored;
+// A record of the queue, where it waits.
+fn waits(out: &mut [u8], at: usize, waiting: Waiting, is: bool) -> usize {
+    let rec = waiting.rec;
+    if !is {
+        return at;
+    }
+    let a = put_text(out, at, b", waits ");
+    put_record(out, a, rec)
+}
+
+fn queue(out: &mut [u8], at: usize, queue: [Waiting; 8], queued: usize) -> usize {
+    let mut place = at;
+    for j in 0..8 {
+        let waiting = queue[j];
+        place = waits(out, place, waiting, j < queued);
+    }
+    place
+}
+
+// The line, T1's start, the key position and the stored answer.
+fn numbers(
+    out: &mut [u8],
+    at: usize,
+    line: u8,
+    t1: u32,
+    key: u8,
+    stored: &[u8; 66],
+    kept: usize,
+) -> usize {
+    let a = show::number(out, at, b"line ", line as u64);
+    let b = show::number(out, a, b", T1 ", t1 as u64);
+    let c = put_text(out, b, b", key ");
+    let d = put_byte(out, c, key);
+    show::first(out, d, b", stored ", stored, kept)
+}
+
+// The whole state: its numbers, the record set for r and those that wait.
+fn whole(d: Desk, row: &[u8], out: &mut [u8]) -> Desk {
+    let last = d.last;
+    let stored = d.stored;
     let wanted = d.requested;
-    let queue = d.queue;
-    show::small(words::LINE, d.line);
-    show::number(words::T1, d.t1 as u64);
-    show::character(words::KEY_IS, d.key);
-    show::text(words::STORED, &mut stored, d.kept);
-    requested(wanted);
-    waiting(queue, d.queued);
-    state(d);
+    let records = d.queue;
+    let a = show::begin(out, row);
+    let b = numbers(out, a, d.line, d.t1, d.key, &stored, d.kept);
+    let c = requested(out, b, wanted);
+    let e = queue(out, c, records, d.queued);
+    end(out, e, d.good, last.0, d.queued);
     d
 }
 
@@ -162,7 +146,7 @@ fn key(row: &[u8]) -> u8 {
 
 // The start, or a call that hears nothing.
 fn step(d: Desk, call: Call, row: &[u8]) -> Step {
-    let n = rows::number(row, 2);
+    let n = word_value(row, 2);
     let rec = rows::record(row, 2);
     match call {
         Call::Start => Desk::start((n % 256) as u8),
@@ -173,23 +157,29 @@ fn step(d: Desk, call: Call, row: &[u8]) -> Step {
     }
 }
 
-fn stepped(d: Desk, call: Call, row: &[u8]) -> Desk {
+fn stepped(d: Desk, call: Call, row: &[u8], out: &mut [u8]) -> Desk {
     let step = step(d, call, row);
-    let after = step.desk;
+    let desk = step.desk;
     let answer = step.answer;
-    outcome(answer);
-    state(after);
-    after
+    let last = desk.last;
+    let a = show::begin(out, row);
+    let b = put_outcome(out, a, answer);
+    end(out, b, desk.good, last.0, desk.queued);
+    desk
 }
 
-// The call that a row names.
-pub(crate) fn call(d: Desk, row: &[u8]) -> Desk {
-    let call = rows::call_of(row);
+// The desk behind a row.
+pub(crate) fn on_row(d: Desk, row: &[u8], out: &mut [u8]) -> Desk {
+    let call = rows::call_of(row, b"desk");
     match call {
-        Call::Start | Call::Tick | Call::Queue | Call::Set | Call::Key => stepped(d, call, row),
-        Call::Hear => hear(d, row),
-        Call::Alter => alter(d, row),
-        Call::Show => whole(d),
-        Call::Offer | Call::None => d,
+        Call::Start | Call::Tick | Call::Queue | Call::Set | Call::Key => {
+            return stepped(d, call, row, out);
+        }
+        Call::Hear => return hear(d, row, out),
+        Call::Alter => return alter(d, row, out),
+        Call::Show => return whole(d, row, out),
+        Call::Offer | Call::None => show::only(out, row),
+        Call::Elsewhere => {}
     }
+    d
 }

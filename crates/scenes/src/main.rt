@@ -17,10 +17,11 @@ mod masters;
 mod rows;
 mod script;
 mod show;
-mod words;
 
+// What a row prints has room: it is said again, 1,024 bytes and LF, and an answer has under 1,500.
 fn main() {
     let mut buf = [0u8; 65536];
     let mut row = [0u8; 1024];
-    script::run(&mut buf, &mut row);
+    let mut out = [0u8; 4096];
+    script::run(&mut buf, &mut row, &mut out);
 }

@@ -2,130 +2,72 @@
 use crate::rows;
 use crate::rows::Call;
 use crate::show;
-use crate::words;
 use characters::slices::part;
 use clock::counters::ToSend;
 use master::answers::Answer;
-use master::answers::Cause;
-use master::answers::Reason;
-use master::answers::Sending;
 use master::state::Master;
 use master::state::Step;
-use reading::answers::Reading;
 use records::records::Record;
+use tellings::masters::put_answer;
+use text::fields::word_value;
+use text::items::put_record;
+use text::putting::put_text;
 
 // The state: line, number to send, sendings made.
-fn state(m: Master) {
-    let number = m.number;
-    show::line(m.good);
-    show::small(words::NUMBER, number.0);
-    show::small(words::COUNT, m.count);
-    show::end();
+fn end(out: &mut [u8], at: usize, good: bool, number: u8, count: u8) {
+    let a = show::line(out, at, good);
+    let b = show::number(out, a, b", number ", number as u64);
+    let c = show::number(out, b, b", count ", count as u64);
+    show::end(out, c);
 }
 
-fn sending(s: Sending) {
-    match s {
-        Sending::Offered => words::say(words::SENT),
-        Sending::Again => words::say(words::AGAIN),
-        Sending::Poll => words::say(words::POLLED),
-    }
+// What a call did, and what was sent.
+fn did(out: &mut [u8], row: &[u8], answer: Answer, sent: &[u8; 128]) -> usize {
+    let a = show::begin(out, row);
+    let b = put_answer(out, a, answer);
+    show::output(out, b, sent)
 }
 
-fn sent(s: Sending, count: u8, bytes: usize) {
-    sending(s);
-    show::small(words::COUNT, count);
-    show::sent(words::COMMA, bytes);
-}
-
-fn answered(rec: Record, count: u8) {
-    show::small(words::ANSWERED, count);
-    show::record(words::COMMA, rec);
-}
-
-fn other_kind(r: Reading, count: u8) {
-    show::small(words::OTHER_KIND, count);
-    match r {
-        Reading::Accepted(rec, _) => show::record(words::COMMA, rec),
-        Reading::Refused(x) => show::refusal(words::COMMA, x),
-    }
-}
-
-fn given_up(cause: Cause, count: u8) {
-    match cause {
-        Cause::Silence => words::say(words::SILENCE),
-        Cause::Rejected => words::say(words::REJECTED),
-    }
-    show::small(words::COUNT, count);
-}
-
-fn ignored(reason: Reason) {
-    match reason {
-        Reason::Free => words::say(words::FREE),
-        Reason::RunOut => words::say(words::RUN_OUT),
-        Reason::Refused(r) => show::refusal(words::IGNORED, r),
-        Reason::OtherNumber => words::say(words::OTHER_NUMBER),
-    }
-}
-
-fn answer_of(answer: Answer) {
-    match answer {
-        Answer::Refused(r) => show::refusal(words::INDENT, r),
-        Answer::Nothing => words::say(words::NOTHING),
-        Answer::Sent {
-            sending,
-            count,
-            bytes,
-        } => sent(sending, count, bytes),
-        Answer::Answered { rec, count } => answered(rec, count),
-        Answer::OtherKind { reading, count } => other_kind(reading, count),
-        Answer::GivenUp { cause, count } => given_up(cause, count),
-        Answer::Ignored(reason) => ignored(reason),
-    }
-}
-
-// Says what a call did, what its output holds and the state behind it.
-fn told(step: Step, out: &mut [u8; 128]) -> Master {
-    let after = step.master;
+fn told(step: Step, row: &[u8], sent: &[u8; 128], out: &mut [u8]) -> Master {
+    let master = step.master;
     let answer = step.answer;
-    answer_of(answer);
-    show::output(out);
-    state(after);
-    after
+    let number = master.number;
+    let a = did(out, row, answer, sent);
+    end(out, a, master.good, number.0, master.count);
+    master
 }
 
-fn start(row: &[u8]) -> Master {
-    let mut out = [b'#'; 128];
-    told(
-        Master::start(rows::small(row, 2), rows::number(row, 3)),
-        &mut out,
-    )
+fn start(row: &[u8], out: &mut [u8]) -> Master {
+    let sent = [b'#'; 128];
+    let step = Master::start(rows::small(row, 2), word_value(row, 3));
+    told(step, row, &sent, out)
 }
 
-fn offer(m: Master, row: &[u8]) -> Master {
+fn offer(m: Master, row: &[u8], out: &mut [u8]) -> Master {
     let room = rows::room(row);
     let rec = rows::record(row, 4);
-    let at = rows::number(row, 2);
-    let mut out = [b'#'; 128];
-    let step = m.offer(at, rec, &mut out[..room]);
-    told(step, &mut out)
+    let time = word_value(row, 2);
+    let mut sent = [b'#'; 128];
+    let step = m.offer(time, rec, &mut sent[..room]);
+    told(step, row, &sent, out)
 }
 
-fn tick(m: Master, row: &[u8]) -> Master {
+fn tick(m: Master, row: &[u8], out: &mut [u8]) -> Master {
     let room = rows::room(row);
-    let at = rows::number(row, 2);
-    let mut out = [b'#'; 128];
-    let step = m.tick(at, &mut out[..room]);
-    told(step, &mut out)
+    let time = word_value(row, 2);
+    let mut sent = [b'#'; 128];
+    let step = m.tick(time, &mut sent[..room]);
+    told(step, row, &sent, out)
 }
 
-fn hear(m: Master, row: &[u8]) -> Master {
+fn hear(m: Master, row: &[u8], out: &mut [u8]) -> Master {
     let room = rows::room(row);
     let frame = rows::heard(row, 4);
     let bytes = frame.bytes;
-    let at = rows::number(row, 2);
-    let mut out = [b'#'; 128];
-    let step = m.hear(at, part(&bytes, 0, frame.n), &mut out[..room]);
-    told(step, &mut out)
+    let time = word_value(row, 2);
+    let mut sent = [b'#'; 128];
+    let step = m.hear(time, part(&bytes, 0, frame.n), &mut sent[..room]);
+    told(step, row, &sent, out)
 }
 
 // The state with one of its numbers as a row says, which may be out of its range.
@@ -142,40 +84,47 @@ fn altered(m: Master, field: usize, value: u32) -> Master {
     e
 }
 
-fn alter(m: Master, row: &[u8]) -> Master {
-    let e = altered(m, rows::altered_field(row), rows::number(row, 3));
-    words::say(words::ALTERED);
-    state(e);
-    e
+fn alter(m: Master, row: &[u8], out: &mut [u8]) -> Master {
+    let master = altered(m, rows::altered_field(row), word_value(row, 3));
+    let number = master.number;
+    let a = show::begin(out, row);
+    let b = put_text(out, a, b"altered");
+    end(out, b, master.good, number.0, master.count);
+    master
 }
 
-// What is sent and when: while free neither is looked at.
-fn sendings(m: Master) {
-    let rec = m.rec;
-    if m.count != 0 {
-        show::number(words::T2, m.t2 as u64);
-        show::record(words::SENDS, rec);
+// The line and T0's start; while it is not free, T2's start and what is sent.
+fn numbers(out: &mut [u8], at: usize, line: u8, t0: u32, count: u8, t2: u32, rec: Record) -> usize {
+    let a = show::number(out, at, b"line ", line as u64);
+    let b = show::number(out, a, b", T0 ", t0 as u64);
+    if count == 0 {
+        return b;
     }
+    let c = show::number(out, b, b", T2 ", t2 as u64);
+    let d = put_text(out, c, b", sends ");
+    put_record(out, d, rec)
 }
 
-// The rest of the state: its line, T0's start, T2's start, the record that is sent.
-fn whole(m: Master) -> Master {
-    show::small(words::LINE, m.line);
-    show::number(words::T0, m.t0 as u64);
-    sendings(m);
-    state(m);
+fn whole(m: Master, row: &[u8], out: &mut [u8]) -> Master {
+    let number = m.number;
+    let rec = m.rec;
+    let a = show::begin(out, row);
+    let b = numbers(out, a, m.line, m.t0, m.count, m.t2, rec);
+    end(out, b, m.good, number.0, m.count);
     m
 }
 
-// The call that a row names.
-pub(crate) fn call(m: Master, row: &[u8]) -> Master {
-    match rows::call_of(row) {
-        Call::Start => start(row),
-        Call::Offer => offer(m, row),
-        Call::Tick => tick(m, row),
-        Call::Hear => hear(m, row),
-        Call::Alter => alter(m, row),
-        Call::Show => whole(m),
-        Call::Queue | Call::Set | Call::Key | Call::None => m,
+// The master behind a row.
+pub(crate) fn on_row(m: Master, row: &[u8], out: &mut [u8]) -> Master {
+    match rows::call_of(row, b"master") {
+        Call::Start => return start(row, out),
+        Call::Offer => return offer(m, row, out),
+        Call::Tick => return tick(m, row, out),
+        Call::Hear => return hear(m, row, out),
+        Call::Alter => return alter(m, row, out),
+        Call::Show => return whole(m, row, out),
+        Call::Queue | Call::Set | Call::Key | Call::None => show::only(out, row),
+        Call::Elsewhere => {}
     }
+    m
 }

@@ -1,109 +1,49 @@
-// What calls answer, as text.
-use crate::words;
+// What rows print.
 use characters::slices::byte_at;
 use characters::slices::part;
 use libc::STDOUT_FILENO;
-use records::records::Record;
-use records::records::type_of;
-use records::records::values_of;
-use records::refusals::Refusal;
-use records::refusals::number_of;
-use records::refusals::place_of;
+use text::frames::put_shown;
+use text::numbers::put_number;
+use text::putting::put_byte;
+use text::putting::put_text;
 
-pub(crate) fn bytes(text: &[u8]) {
-    io::write_all(STDOUT_FILENO, text);
+// Ends a row and writes all that it prints.
+pub(crate) fn end(out: &mut [u8], at: usize) {
+    let n = put_byte(out, at, b'\n');
+    io::write_all(STDOUT_FILENO, part(out, 0, n));
 }
 
-pub(crate) fn end() {
-    bytes(b"\n");
+// A row that is only said again.
+pub(crate) fn only(out: &mut [u8], row: &[u8]) {
+    let a = put_text(out, 0, row);
+    end(out, a);
+}
+
+// A row said again, and the indent of its answer.
+pub(crate) fn begin(out: &mut [u8], row: &[u8]) -> usize {
+    let a = put_text(out, 0, row);
+    put_text(out, a, b"\n  ")
 }
 
 // A number behind a word.
-pub(crate) fn number(word: usize, n: u64) {
-    words::say(word);
-    io::print_decimal(STDOUT_FILENO, n);
-}
-
-pub(crate) fn small(word: usize, n: u8) {
-    number(word, n as u64);
-}
-
-// How many bytes were sent.
-pub(crate) fn sent(word: usize, n: usize) {
-    number(word, n as u64);
-    words::say(words::BYTES);
-}
-
-pub(crate) fn character(word: usize, b: u8) {
-    words::say(word);
-    bytes(&[b]);
-}
-
-pub(crate) fn refusal(word: usize, r: Refusal) {
-    words::say(word);
-    small(words::NO, number_of(r));
-    number(words::SPACE, place_of(r) as u64);
-}
-
-// How many values a record of a type has.
-fn count_of(kind: u8) -> usize {
-    match kind {
-        b'B' => 4,
-        b'K' => 6,
-        b'O' => 7,
-        b'1' => 10,
-        _ => 1,
-    }
-}
-
-fn value(n: u32) {
-    number(words::SPACE, n as u64);
-}
-
-fn values(v: [u32; 10], count: usize) {
-    for j in 0..10 {
-        if j < count {
-            value(v[j]);
-        }
-    }
-}
-
-// A record as the rows write it: its type and its values.
-pub(crate) fn record(word: usize, rec: Record) {
-    let kind = type_of(rec);
-    character(word, kind);
-    values(values_of(rec), count_of(kind));
+pub(crate) fn number(out: &mut [u8], at: usize, word: &[u8], n: u64) -> usize {
+    let a = put_text(out, at, word);
+    put_number(out, a, n)
 }
 
 // A line is good or lost.
-pub(crate) fn line(good: bool) {
-    words::say(if good {
-        words::GOOD_LINE
-    } else {
-        words::LOST_LINE
-    });
-}
-
-// A byte of an output as the rows write it.
-fn shown(b: u8) -> u8 {
-    match b {
-        10 => b'<',
-        13 => b'>',
-        _ => b,
+pub(crate) fn line(out: &mut [u8], at: usize, good: bool) -> usize {
+    if good {
+        return put_text(out, at, b"; line good");
     }
+    put_text(out, at, b"; line lost")
 }
 
-fn make_visible(out: &mut [u8]) {
-    for i in 0..out.len() {
-        out[i] = shown(out[i]);
-    }
-}
-
-// How many bytes an output has up to the last that is not #.
-fn filled(out: &[u8]) -> usize {
-    let mut n = out.len();
+// How many of these bytes there are up to the last that is not #.
+fn filled(bytes: &[u8]) -> usize {
+    let mut n = bytes.len();
     while n > 0 {
-        if byte_at(out, n - 1) != b'#' {
+        if byte_at(bytes, n - 1) != b'#' {
             return n;
         }
         n = n - 1;
@@ -112,16 +52,15 @@ fn filled(out: &[u8]) -> usize {
 }
 
 // The first n of these bytes behind a word; where there are none, nothing.
-pub(crate) fn text(word: usize, out: &mut [u8], n: usize) {
-    if 0 < n {
-        make_visible(out);
-        words::say(word);
-        bytes(part(out, 0, n));
+pub(crate) fn first(out: &mut [u8], at: usize, word: &[u8], bytes: &[u8], n: usize) -> usize {
+    if n == 0 {
+        return at;
     }
+    let a = put_text(out, at, word);
+    put_shown(out, a, part(bytes, 0, n))
 }
 
 // What stands in an output that held # all over before the call.
-pub(crate) fn output(out: &mut [u8]) {
-    let n = filled(out);
-    text(words::SPACE, out, n);
+pub(crate) fn output(out: &mut [u8], at: usize, sent: &[u8]) -> usize {
+    first(out, at, b" ", sent, filled(sent))
 }

@@ -1,6 +1,7 @@
--- `scenes::desks::hear` meets its contract. Assumes nothing.
-use lib.Seq.{length-take-le}
+-- `hear` lends as much room as the row gives. Assumes nothing.
 use mathlib.Core.Path.{sym}
+use native.Mathlib.Omega.{arith}
+use lib.Seq.{length-take-le}
 use borrow.Author.Needs.{needs}
 use Rattle.scenes.proofs.desks.hear.Statement.{statement}
 use Rattle.scenes.proofs.desks.hear.Tie as tie
@@ -11,8 +12,8 @@ room-requires c κs = search needs
 heard-requires : tie.Need-heard-requires
 heard-requires c κs = search needs
 
-number-requires : tie.Need-number-requires
-number-requires c κs = search needs
+word-value-requires : tie.Need-word-value-requires
+word-value-requires c κs = search needs
 
 slice-aggregate-part : tie.Need-slice-aggregate-part
 slice-aggregate-part c = search needs
@@ -20,17 +21,20 @@ slice-aggregate-part c = search needs
 part-requires : tie.Need-part-requires
 part-requires c κs = search needs
 
-array-borrow-prefix-out : tie.Need-array-borrow-prefix-out
-array-borrow-prefix-out c = search needs
+array-borrow-prefix-sent : tie.Need-array-borrow-prefix-sent
+array-borrow-prefix-sent c = search needs
 
 slice-aggregate-hear : tie.Need-slice-aggregate-hear
-slice-aggregate-hear c = sym (length-take-le (c .before .before .before .before .before .before .room .result) _ (c .before .before .before .before .before .before .room .ensures))
+slice-aggregate-hear c = sym (length-take-le _ _ (omega arith))
 
 hear-requires : tie.Need-hear-requires
 hear-requires c κs = search needs
 
 told-requires : tie.Need-told-requires
 told-requires c κs = search needs
+
+same-length : tie.Need-same-length
+same-length c = search needs
 
 returns : tie.Need-returns
 returns c = search needs
@@ -41,11 +45,12 @@ hear-spec =
     (tie.spec
     room-requires
     heard-requires
-    number-requires
+    word-value-requires
     slice-aggregate-part
     part-requires
-    array-borrow-prefix-out
+    array-borrow-prefix-sent
     slice-aggregate-hear
     hear-requires
     told-requires
+    same-length
     returns)

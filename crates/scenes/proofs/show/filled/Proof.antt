@@ -1,4 +1,4 @@
--- `scenes::show::filled` meets its contract. Assumes nothing.
+-- `filled` looks from the end. Assumes nothing.
 use borrow.Author.Needs.{needs}
 use Prim.Native.Nat.{_≤_, _-_}
 use Rattle.scenes.proofs.show.filled.Statement.{statement}
