@@ -6,7 +6,7 @@
 BEFORE and AFTER are checkouts, each with its log as DIR:LOG where there is one: what `.ci/run` or `rt ci` printed, or a folder of
 such logs (target/log). A crate that was renamed is given as OLD=NEW, one that went into another too. For instance:
 
-    tools/sizes.py /tmp/before:/tmp/before.log .:/tmp/after.log telegram=reading trips=roundtrips
+    tools/sizes.py ../before:../before.log .:../after.log telegram=reading trips=roundtrips
 """
 import glob
 import os
