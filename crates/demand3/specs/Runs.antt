@@ -1,18 +1,22 @@
 -- Runs of our two ends, and what happens in them: the promise is not empty, the supposition and the exception are needed, and readings near by
 -- are false. Assumes nothing.
 use mathlib.Core.Path.{_≡_}
-use mathlib.Core.List.{List, [], _∷_, _++_}
+use mathlib.Core.List.{List, [], _∷_, _++_, List·Memᴰ}
 use Prim.Native.Nat.{ℕ}
 use Prim.Native.Char.{code}
 use Prim.Native.String.{String}
+use lib.Dec.{T as So}
 use lib.ListN.{replicate}
 use Rattle.laws.specs.Text.{codes}
+use Rattle.laws.specs.Truth.{All}
 use Rattle.characters.specs.Marks.{lf, cr, longest}
-use Rattle.records.specs.declared.records.Record.the-variants.{Idling, Position, Stop, Train}
-use Rattle.demand3.specs.History.{Tel, Hist, sent, again, noted, handled, over, answered, gaveUp}
-use Rattle.demand3.specs.Demand.{NoLostInside, Promise}
-use Rattle.demand3.specs.Ends.{Ends, Did, Said, Sys, Ev, run, start, ran, sys, offer, mtick, dtick, act, lost, whole, spoilt, got, handles}
-use Rattle.demand3.specs.Ours.{ours, queues}
+use Rattle.records.specs.declared.records.Record.{Record}
+use Rattle.records.specs.declared.records.Record.the-variants.{Idling, Position, RadioData, Train, TrainData}
+use Rattle.demand3.specs.History.{Tel, Hist, sent, again, noted, handled, over, answered, gaveUp, mades, gots}
+use Rattle.demand3.specs.Demand.{Was, NoLostInside, Promise, UpToLast}
+use Rattle.demand3.specs.Ends.{Sys, Ev, run, start, ran, happened, mdo, ddo, sys, offer, mtick, dtick, act, lost, whole, spoilt, empty}
+use Rattle.demand3.specs.Ours.{ours, queues, sets}
+use Rattle.demand3.specs.Allowed.{allowed}
 
 -- 66 bytes of room
 abbrev pub room : List ℕ
@@ -22,39 +26,50 @@ room = replicate longest 0
 abbrev pub telegram : String → List ℕ
 telegram text = lf ∷ (codes text ++ (cr ∷ []))
 
--- the two ends of a run's state
-abbrev pub masterOf : {E : Ends} → Sys E → E .M
-masterOf (sys m d w x h) = m
-
-abbrev pub deskOf : {E : Ends} → Sys E → E .D
-deskOf (sys m d w x h) = d
-
 abbrev pub History : Type 0
 History = Hist (List ℕ) (List ℕ)
 
+-- a run: its line, the master's start time, the events, and the history that they make
+pub record Run : Type 0 where
+  pub line : ℕ
+  pub from : ℕ
+  pub events : List (Ev (ours line))
+  pub history : History
+
+-- it makes that history
+abbrev pub Happens : Run → Type 0
+Happens r = ran (ours (r .line)) (r .from) [] (r .events) ≡ r .history
+
+-- the demand's line allows it
+abbrev pub Allowed : Run → Type 0
+Allowed r = So (allowed (r .line) (r .from) (start (ours (r .line)) (r .from) []) (r .events))
+
 -- The usual exchange on line 3: a sending so spoiled that the desk answers N with 1, a sending lost, the third handled and answered; then a
 -- second telegram with equal values: its answer lost, its next sending spoiled, and the third answered with the answer made, not with N.
-abbrev pub usual : List (Ev (ours 3))
-usual =
-    offer 0 (Train 123456) room ∷ spoilt 10 (telegram "13n0T12345676") room ∷ whole 20 room ∷ lost ∷ mtick 2020 room ∷ whole 2030 room ∷ whole 2040 room ∷
-    offer 3000 (Train 123456) room ∷ whole 3010 room ∷ lost ∷ mtick 5000 room ∷ spoilt 5010 (telegram "13n1T12345675") room ∷ whole 5020 room ∷ whole 5030 room ∷ whole 5040 room ∷ []
-
 abbrev pub train : Tel (List ℕ)
 train = (0, telegram "13n0T12345675")
 
 abbrev pub nextTrain : Tel (List ℕ)
 nextTrain = (1, telegram "13n1T12345674")
 
-abbrev pub usualHistory : History
-usualHistory =
-    answered nextTrain (telegram "08A1AAA4") 3 ∷ over nextTrain ∷ again nextTrain ∷ over nextTrain ∷ again nextTrain ∷ over nextTrain ∷ handled nextTrain (telegram "08A1AAA4") ∷ sent nextTrain ∷
-    answered train (telegram "08A0AAA5") 3 ∷ over train ∷ handled train (telegram "08A0AAA5") ∷ again train ∷ over train ∷ again train ∷ over train ∷ sent train ∷ []
+abbrev pub usual : Run
+usual = record {
+  line = 3;
+  from = 0;
+  events =
+      offer 0 (Train 123456) room ∷ spoilt 10 (telegram "13n0T12345676") room ∷ whole 20 room ∷ lost ∷ mtick 2020 room ∷ whole 2030 room ∷ whole 2040 room ∷
+      offer 3000 (Train 123456) room ∷ whole 3010 room ∷ lost ∷ mtick 5000 room ∷ spoilt 5010 (telegram "13n1T12345675") room ∷ whole 5020 room ∷
+      whole 5030 room ∷ whole 5040 room ∷ [];
+  history =
+      answered nextTrain (telegram "08A1AAA4") 3 ∷ over nextTrain ∷ again nextTrain ∷ over nextTrain ∷ again nextTrain ∷ over nextTrain ∷
+      handled nextTrain (telegram "08A1AAA4") ∷ sent nextTrain ∷ answered train (telegram "08A0AAA5") 3 ∷ over train ∷
+      handled train (telegram "08A0AAA5") ∷ again train ∷ over train ∷ again train ∷ over train ∷ sent train ∷ [];
+}
 
--- The customer's fault on line 2: two records queued, the answer to t lost; asked again, the same record arrives, and the next one at the next t.
-abbrev pub polled : List (Ev (ours 2))
-polled =
-    act (queues (Stop (code "+"))) ∷ act (queues (Stop (code "-"))) ∷ mtick 20000 room ∷ whole 20010 room ∷ lost ∷ mtick 22000 room ∷ whole 22010 room ∷ whole 22020 room ∷
-    mtick 42000 room ∷ whole 42010 room ∷ whole 42020 room ∷ []
+-- The customer's fault on line 3: the answer to t is lost, and another record waits when the master asks again. The same record arrives,
+-- and the other one at the next t.
+abbrev pub radio : ℕ → Record
+radio position = RadioData (record { fc = 1; d = 2; c = 3; mode = code "A"; left = code "A"; right = code "B"; position = position })
 
 abbrev pub poll : Tel (List ℕ)
 poll = (0, telegram "08t0Bt3E")
@@ -62,82 +77,177 @@ poll = (0, telegram "08t0Bt3E")
 abbrev pub nextPoll : Tel (List ℕ)
 nextPoll = (1, telegram "08t1Bt3D")
 
-abbrev pub polledHistory : History
-polledHistory =
-    answered nextPoll (telegram "0851U-B0") 1 ∷ over nextPoll ∷ handled nextPoll (telegram "0851U-B0") ∷ sent nextPoll ∷
-    answered poll (telegram "0850U+B3") 2 ∷ over poll ∷ again poll ∷ over poll ∷ handled poll (telegram "0850U+B3") ∷ sent poll ∷ []
+abbrev pub data₀ : List ℕ
+data₀ = telegram "28K0FC01D02C03M:AV:ABP1234F0"
+
+abbrev pub data₁ : List ℕ
+data₁ = telegram "28K1FC01D02C03M:AV:ABP4321EF"
+
+abbrev pub polled : Run
+polled = record {
+  line = 3;
+  from = 0;
+  events =
+      act (queues (radio 1234)) ∷ mtick 20000 room ∷ whole 20010 room ∷ lost ∷ act (queues (radio 4321)) ∷ mtick 22000 room ∷ whole 22010 room ∷
+      whole 22020 room ∷ mtick 42000 room ∷ whole 42010 room ∷ whole 42020 room ∷ [];
+  history =
+      answered nextPoll data₁ 1 ∷ over nextPoll ∷ handled nextPoll data₁ ∷ sent nextPoll ∷
+      answered poll data₀ 2 ∷ over poll ∷ again poll ∷ over poll ∷ handled poll data₀ ∷ sent poll ∷ [];
+}
+
+-- Through the clock's zero on line 1: the answer to a poll is lost, and T2 and T0 run out behind zero, at 2,000 and 20,000 and not before.
+abbrev pub request : Tel (List ℕ)
+request = (0, telegram "08r0BB72")
+
+abbrev pub nextRequest : Tel (List ℕ)
+nextRequest = (1, telegram "08r1BB71")
+
+abbrev pub throughZero : Run
+throughZero = record {
+  line = 1;
+  from = 4294946500;
+  events =
+      act (sets (TrainData 125 90 120 88)) ∷ mtick 4294966500 room ∷ whole 4294966510 room ∷ lost ∷ mtick 1203 room ∷ mtick 1204 room ∷
+      whole 1214 room ∷ whole 1224 room ∷ mtick 21203 room ∷ mtick 21204 room ∷ whole 21214 room ∷ whole 21224 room ∷ [];
+  history =
+      answered nextRequest (telegram "21B1L125%090H120R88EB") 1 ∷ over nextRequest ∷ handled nextRequest (telegram "21B1L125%090H120R88EB") ∷
+      sent nextRequest ∷ answered request (telegram "21B0L125%090H120R88EC") 2 ∷ over request ∷ again request ∷ over request ∷
+      handled request (telegram "21B0L125%090H120R88EC") ∷ sent request ∷ [];
+}
+
+-- the answer A to the telegrams below
+abbrev pub yes : List ℕ
+yes = telegram "08A0AAA5"
 
 -- Answered but not handled: the answer is lost, then two more sendings, and the master gives up; the next telegram has number 0 again, is
--- taken for a repeat, and gets the stored answer. Without the exception for the first answered since a giving up the demand is false.
-abbrev pub stale : List (Ev (ours 2))
-stale =
-    offer 0 (Idling (code "t")) room ∷ whole 10 room ∷ lost ∷ mtick 2000 room ∷ lost ∷ mtick 4000 room ∷ lost ∷ mtick 6000 room ∷
-    offer 6001 (Position 1234) room ∷ whole 6010 room ∷ whole 6020 room ∷ []
-
+-- taken for a repeat, and gets the stored answer.
 abbrev pub place : Tel (List ℕ)
 place = (1, telegram "11F0P12340E")
 
-abbrev pub staleHistory : History
-staleHistory =
-    answered place (telegram "08A0AAA5") 1 ∷ over place ∷ sent place ∷ gaveUp poll 3 ∷ over poll ∷ again poll ∷ over poll ∷ again poll ∷ over poll ∷
-    handled poll (telegram "08A0AAA5") ∷ sent poll ∷ []
-
--- Handled twice: the call that hears the second sending notes the lost line first. The supposition fails; one that allows the note in the
--- hearing call itself is too weak.
-abbrev pub twice : List (Ev (ours 2))
-twice = offer 0 (Idling (code "t")) room ∷ whole 10 room ∷ lost ∷ mtick 2000 room ∷ whole 28010 room ∷ []
-
-abbrev pub twiceHistory : History
-twiceHistory =
-    over poll ∷ handled poll (telegram "08A0AAA5") ∷ noted ∷ again poll ∷ over poll ∷ handled poll (telegram "08A0AAA5") ∷ sent poll ∷ []
-
--- Handled twice: the lost line is noted while no sending is under way, and then the master sends again. The supposition fails; one that
--- looks only at the sendings made so far is too weak.
-abbrev pub later : List (Ev (ours 2))
-later = offer 0 (Idling (code "t")) room ∷ whole 10 room ∷ lost ∷ dtick 28010 ∷ mtick 28020 room ∷ whole 28030 room ∷ []
-
-abbrev pub laterHistory : History
-laterHistory =
-    over poll ∷ handled poll (telegram "08A0AAA5") ∷ again poll ∷ noted ∷ over poll ∷ handled poll (telegram "08A0AAA5") ∷ sent poll ∷ []
+abbrev pub stale : Run
+stale = record {
+  line = 2;
+  from = 0;
+  events =
+      offer 0 (Idling (code "t")) room ∷ whole 10 room ∷ lost ∷ mtick 2000 room ∷ lost ∷ mtick 4000 room ∷ lost ∷ mtick 6000 room ∷
+      offer 6001 (Position 1234) room ∷ whole 6010 room ∷ whole 6020 room ∷ [];
+  history =
+      answered place yes 1 ∷ over place ∷ sent place ∷ gaveUp poll 3 ∷ over poll ∷ again poll ∷ over poll ∷ again poll ∷ over poll ∷
+      handled poll yes ∷ sent poll ∷ [];
+}
 
 -- Refused calls: an offer without room and one while the master waits do nothing, and a call under 66 bytes of room hears nothing, so that
 -- the sending and the answer are lost.
-abbrev pub cramped : List (Ev (ours 2))
-cramped =
-    offer 0 (Idling (code "t")) [] ∷ offer 0 (Idling (code "t")) room ∷ offer 5 (Idling (code "t")) room ∷ whole 10 (replicate 65 0) ∷ mtick 2000 room ∷
-    whole 2010 room ∷ whole 2020 (replicate 65 0) ∷ whole 2030 room ∷ []
+abbrev pub cramped : Run
+cramped = record {
+  line = 2;
+  from = 0;
+  events =
+      offer 0 (Idling (code "t")) [] ∷ offer 0 (Idling (code "t")) room ∷ offer 5 (Idling (code "t")) room ∷ whole 10 (replicate 65 0) ∷
+      mtick 2000 room ∷ whole 2010 room ∷ whole 2020 (replicate 65 0) ∷ whole 2030 room ∷ [];
+  history = over poll ∷ handled poll yes ∷ again poll ∷ over poll ∷ sent poll ∷ [];
+}
 
-abbrev pub crampedHistory : History
-crampedHistory = over poll ∷ handled poll (telegram "08A0AAA5") ∷ again poll ∷ over poll ∷ sent poll ∷ []
+-- What the line does not bring: bytes that were not sent and pass checks 1 to 7, and a sending still on the line when the master gives up.
+abbrev pub withheld : Run
+withheld = record {
+  line = 2;
+  from = 0;
+  events =
+      offer 0 (Idling (code "t")) room ∷ spoilt 10 (telegram "11F0P12340E") room ∷ lost ∷ mtick 2000 room ∷ lost ∷ mtick 4000 room ∷
+      mtick 6000 room ∷ whole 6010 room ∷ [];
+  history = gaveUp poll 3 ∷ again poll ∷ over poll ∷ again poll ∷ over poll ∷ sent poll ∷ [];
+}
 
--- Two things that the line does not allow: what arrives after the master stopped waiting on it.
--- A first sending kept back until the next telegram was handled would be handled again, out of order;
-abbrev pub keptBack : List (Ev (ours 2))
-keptBack = offer 0 (Idling (code "t")) room ∷ mtick 2000 room ∷ whole 2010 room ∷ whole 2020 room ∷ offer 2030 (Position 1234) room ∷ whole 2040 room ∷ []
+-- Handled twice: the call that hears the second sending notes the lost line first. A supposition that allows the note in the hearing call
+-- itself is too weak.
+abbrev pub twice : Run
+twice = record {
+  line = 2;
+  from = 0;
+  events = offer 0 (Idling (code "t")) room ∷ whole 10 room ∷ lost ∷ mtick 28005 room ∷ whole 28010 room ∷ [];
+  history = over poll ∷ handled poll yes ∷ noted ∷ again poll ∷ over poll ∷ handled poll yes ∷ sent poll ∷ [];
+}
 
-abbrev pub lateSending : Said (List ℕ)
-lateSending = ours 2 .dhear (deskOf (run (start (ours 2) 0 []) keptBack)) 2050 (telegram "08t0Bt3E") room .said
+-- Handled twice: the lost line is noted while no sending is under way, and then the master sends again. A supposition that looks only at
+-- the sendings made so far is too weak.
+abbrev pub later : Run
+later = record {
+  line = 2;
+  from = 0;
+  events = offer 0 (Idling (code "t")) room ∷ whole 10 room ∷ lost ∷ dtick 28010 ∷ mtick 28020 room ∷ whole 28030 room ∷ [];
+  history = over poll ∷ handled poll yes ∷ again poll ∷ noted ∷ over poll ∷ handled poll yes ∷ sent poll ∷ [];
+}
 
--- an answer kept back until the next telegram with its number was sent would be taken as the answer to that one, which was not handled.
-abbrev pub keptLonger : List (Ev (ours 2))
-keptLonger =
-    offer 0 (Idling (code "t")) room ∷ whole 10 room ∷ mtick 2000 room ∷ whole 2010 room ∷ whole 2020 room ∷ offer 2030 (Position 1234) room ∷ whole 2040 room ∷ whole 2050 room ∷
-    offer 2060 (Position 4321) room ∷ []
+-- What the line does not allow: a thing that arrives after the master stopped waiting on it. Behind a run the desk hears this telegram,
+-- or the master this answer.
+abbrev pub deskHears : Sys (ours 2) → ℕ → Tel (List ℕ) → History
+deskHears (sys m d w x h) at y = happened {E = ours 2} (ddo (ours 2 .dhear d at (y .1) room) m y h)
 
-abbrev pub lateAnswer : Did (List ℕ)
-lateAnswer = ours 2 .mhear (masterOf (run (start (ours 2) 0 []) keptLonger)) 2070 (telegram "08A0AAA5") room .did
+abbrev pub masterHears : Sys (ours 2) → ℕ → List ℕ → History
+masterHears (sys m d w x h) at answer = happened {E = ours 2} (mdo (ours 2 .mhear m at answer room) d empty x h)
+
+abbrev pub nextPlace : Tel (List ℕ)
+nextPlace = (1, telegram "11F1P12340D")
+
+abbrev pub lastPlace : Tel (List ℕ)
+lastPlace = (2, telegram "11F0P43210E")
+
+abbrev pub nextYes : List ℕ
+nextYes = telegram "08A1AAA4"
+
+-- A first sending, kept back until the next telegram was handled, would be handled again, out of order.
+abbrev pub lateSending : History
+lateSending =
+    deskHears (run (start (ours 2) 0 []) (offer 0 (Idling (code "t")) room ∷ mtick 2000 room ∷ whole 2010 room ∷ whole 2020 room ∷
+    offer 2030 (Position 1234) room ∷ whole 2040 room ∷ [])) 2050 poll
+
+abbrev pub lateSendingHistory : History
+lateSendingHistory =
+    over poll ∷ handled poll yes ∷ over nextPlace ∷ handled nextPlace nextYes ∷ sent nextPlace ∷ answered poll yes 2 ∷ over poll ∷
+    handled poll yes ∷ again poll ∷ sent poll ∷ []
+
+-- An answer, kept back until the next telegram with its number was sent, would be taken for the answer to that one, which was not handled.
+abbrev pub lateAnswer : History
+lateAnswer =
+    masterHears (run (start (ours 2) 0 []) (offer 0 (Idling (code "t")) room ∷ whole 10 room ∷ mtick 2000 room ∷ whole 2010 room ∷ whole 2020 room ∷
+    offer 2030 (Position 1234) room ∷ whole 2040 room ∷ whole 2050 room ∷ offer 2060 (Position 4321) room ∷ [])) 2070 yes
+
+abbrev pub lateAnswerHistory : History
+lateAnswerHistory =
+    answered lastPlace yes 1 ∷ sent lastPlace ∷ answered nextPlace nextYes 1 ∷ over nextPlace ∷ handled nextPlace nextYes ∷ sent nextPlace ∷
+    answered poll yes 2 ∷ over poll ∷ again poll ∷ over poll ∷ handled poll yes ∷ sent poll ∷ []
 
 -- what happens in each
 abbrev pub Runs : Type 0
 Runs =
-    (ran (ours 3) 0 [] usual ≡ usualHistory) × (ran (ours 2) 0 [] polled ≡ polledHistory) × (ran (ours 2) 0 [] stale ≡ staleHistory)
-    × (ran (ours 2) 0 [] twice ≡ twiceHistory) × (ran (ours 2) 0 [] later ≡ laterHistory) × (ran (ours 2) 0 [] cramped ≡ crampedHistory)
-    × (lateSending ≡ handles (telegram "08t0Bt3E") (telegram "08A0AAA5")) × (lateAnswer ≡ got (telegram "08A0AAA5") 1)
+    All Happens (usual ∷ polled ∷ throughZero ∷ stale ∷ cramped ∷ withheld ∷ twice ∷ later ∷ [])
+    × (lateSending ≡ lateSendingHistory) × (lateAnswer ≡ lateAnswerHistory)
 
--- the promise holds of the first three,
+-- each is a run of the demand's line, but for `withheld` and the late ones
+abbrev pub AllowedRuns : Type 0
+AllowedRuns = All Allowed (usual ∷ polled ∷ throughZero ∷ stale ∷ cramped ∷ twice ∷ later ∷ [])
+
+-- Of these the supposition and the promise hold.
 abbrev pub Promises : Type 0
-Promises = Promise usualHistory × Promise polledHistory × Promise staleHistory
+Promises = All (λ (r : Run). NoLostInside (r .history) × Promise (r .history)) (usual ∷ polled ∷ throughZero ∷ stale ∷ cramped ∷ withheld ∷ [])
 
--- and the supposition fails of the next two
+-- Of these the supposition fails,
 abbrev pub NotSupposed : Type 0
-NotSupposed = (NoLostInside twiceHistory → ⊥) × (NoLostInside laterHistory → ⊥)
+NotSupposed = All (λ (r : Run). NoLostInside (r .history) → ⊥) (twice ∷ later ∷ [])
+
+-- and the promise does.
+abbrev pub NotPromised : Type 0
+NotPromised = All (λ (r : Run). Promise (r .history) → ⊥) (twice ∷ later ∷ [])
+
+-- Where things arrive late the supposition holds, and the promise fails.
+abbrev pub LateNotPromised : Type 0
+LateNotPromised = All (λ h. NoLostInside h × (Promise h → ⊥)) (lateSendingHistory ∷ lateAnswerHistory ∷ [])
+
+-- "A telegram the master reports answered was handled", without the exception that follows
+abbrev pub AnsweredHandled : History → Type 0
+AnsweredHandled h = (x : Tel (List ℕ)) (a : List ℕ) → List·Memᴰ (x, a) (gots h) → Was x h
+
+-- In `stale`, where one was given up, that fails, and so does what the demand says of runs where none was.
+abbrev pub StaleNot : Type 0
+StaleNot = (AnsweredHandled (stale .history) → ⊥) × (UpToLast (gots (stale .history)) (mades (stale .history)) → ⊥)
