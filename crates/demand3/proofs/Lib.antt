@@ -1,3 +1,4 @@
+pub mod Runs
 pub mod Stepwise
 pub mod Protocol
 pub mod Laws
@@ -8,6 +9,6 @@ pub mod MasterKeeps
 pub mod Settled
 pub mod DeskKeeps
 pub mod Theorem
-pub mod Runs
+pub mod Verdicts
 pub mod Spoilt
 pub mod Told

@@ -5,4 +5,5 @@ pub mod Rules
 pub mod Ours
 pub mod Allowed
 pub mod Runs
+pub mod Verdicts
 pub mod Theorems

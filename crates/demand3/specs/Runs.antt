@@ -1,7 +1,6 @@
--- Runs of our two ends, and what happens in them: the promise is not empty, the supposition and the exception are needed, and readings near by
--- are false. Assumes nothing.
+-- Runs of our two ends, and what happens in them; `Verdicts` says what they show. Assumes nothing.
 use mathlib.Core.Path.{_≡_}
-use mathlib.Core.List.{List, [], _∷_, _++_, List·Memᴰ}
+use mathlib.Core.List.{List, [], _∷_, _++_}
 use Prim.Native.Nat.{ℕ}
 use Prim.Native.Char.{code}
 use Prim.Native.String.{String}
@@ -12,8 +11,7 @@ use Rattle.laws.specs.Truth.{All}
 use Rattle.characters.specs.Marks.{lf, cr, longest}
 use Rattle.records.specs.declared.records.Record.{Record}
 use Rattle.records.specs.declared.records.Record.the-variants.{Idling, Position, RadioData, Train, TrainData}
-use Rattle.demand3.specs.History.{Tel, Hist, sent, again, noted, handled, over, answered, gaveUp, mades, gots}
-use Rattle.demand3.specs.Demand.{Was, NoLostInside, Promise, UpToLast}
+use Rattle.demand3.specs.History.{Tel, Hist, sent, again, noted, handled, over, answered, gaveUp}
 use Rattle.demand3.specs.Ends.{Sys, Ev, run, start, ran, happened, mdo, ddo, sys, offer, mtick, dtick, act, lost, whole, spoilt, empty}
 use Rattle.demand3.specs.Ours.{ours, queues, sets}
 use Rattle.demand3.specs.Allowed.{allowed}
@@ -227,27 +225,3 @@ Runs =
 -- each is a run of the demand's line, but for `withheld` and the late ones
 abbrev pub AllowedRuns : Type 0
 AllowedRuns = All Allowed (usual ∷ polled ∷ throughZero ∷ stale ∷ cramped ∷ twice ∷ later ∷ [])
-
--- Of these the supposition and the promise hold.
-abbrev pub Promises : Type 0
-Promises = All (λ (r : Run). NoLostInside (r .history) × Promise (r .history)) (usual ∷ polled ∷ throughZero ∷ stale ∷ cramped ∷ withheld ∷ [])
-
--- Of these the supposition fails,
-abbrev pub NotSupposed : Type 0
-NotSupposed = All (λ (r : Run). NoLostInside (r .history) → ⊥) (twice ∷ later ∷ [])
-
--- and the promise does.
-abbrev pub NotPromised : Type 0
-NotPromised = All (λ (r : Run). Promise (r .history) → ⊥) (twice ∷ later ∷ [])
-
--- Where things arrive late the supposition holds, and the promise fails.
-abbrev pub LateNotPromised : Type 0
-LateNotPromised = All (λ h. NoLostInside h × (Promise h → ⊥)) (lateSendingHistory ∷ lateAnswerHistory ∷ [])
-
--- "A telegram the master reports answered was handled", without the exception that follows
-abbrev pub AnsweredHandled : History → Type 0
-AnsweredHandled h = (x : Tel (List ℕ)) (a : List ℕ) → List·Memᴰ (x, a) (gots h) → Was x h
-
--- In `stale`, where one was given up, that fails, and so does what the demand says of runs where none was.
-abbrev pub StaleNot : Type 0
-StaleNot = (AnsweredHandled (stale .history) → ⊥) × (UpToLast (gots (stale .history)) (mades (stale .history)) → ⊥)
