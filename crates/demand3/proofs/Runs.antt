@@ -37,8 +37,8 @@ unfolding numeralOn numberOn leftOf inSet total checksumOf checkText lineOf form
     u.wantedFits s.numbersFit s.recordsFit s.inRanges s.startOf p.losesLine p.notedOf p.tickOf p.recordFault p.queueOf p.setOf p.keyFault p.keyOf
     r.repeats r.matterIn r.goodFrame r.badFrame r.rulingIn q.keyOn q.polledOf h.faultedOf h.repeatedOf h.handledOf h.heardOf h.hearOf
 computed = (
-  ((refl, (refl, (refl, (refl, (refl, (refl, (refl, (refl, tt)))))))), refl, refl),
-  (tt, (tt, (tt, (tt, (tt, (tt, (tt, tt))))))),
+  ((refl, (refl, (refl, (refl, (refl, (refl, tt)))))), (refl, (refl, tt)), refl, refl),
+  ((tt, (tt, (tt, (tt, (tt, (tt, (tt, tt))))))), λ q. q),
 )
 
 pub runs : Runs

@@ -6,40 +6,35 @@ use mathlib.Core.Logic.{_⊎_, inl, inr}
 use Prim.Native.Nat.{ℕ}
 use native.Mathlib.Omega.{arith}
 use lib.ListN.{length}
+use Rattle.laws.specs.Truth.{All}
 use Rattle.forms.specs.Lines.{isLine}
 use Rattle.demand3.specs.History.{Tel, over, handled, again}
 use Rattle.demand3.specs.Demand.{NoLostInside, Promise, UpToLast, now, all, butLast}
-use Rattle.demand3.specs.Runs.{Run, Happens, usual, polled, throughZero, stale, cramped, withheld, place, poll, yes, lateSendingHistory, lateAnswerHistory}
+use Rattle.demand3.specs.Runs.{Run, Happens, keptRuns, place, poll, yes, lateSendingHistory, lateAnswerHistory}
 use Rattle.demand3.specs.Verdicts.{Promises, NotSupposed, NotPromised, LateNotPromised, StaleNot}
 use Rattle.demand3.proofs.Stepwise.{Held, of-held}
 use Rattle.demand3.proofs.Theorem.{demand3}
 use Rattle.demand3.proofs.Runs.{runs}
 
--- where a run makes its history, the supposition gives the promise
-promised : (r : Run) → isLine (r .line) ≡ true → Happens r → Held (r .history) → NoLostInside (r .history) × Promise (r .history)
-promised r l e k =
-    let s = of-held (r .history) k in
-    (s, rw e at (demand3 (r .line) l (r .from) (r .events) (rw e s)))
+-- where runs make their histories, the supposition gives the promise
+promised : (rs : List Run) → All (λ r. isLine (r .line) ≡ true) rs → All Happens rs → All (λ r. Held (r .history)) rs →
+    All (λ r. NoLostInside (r .history) × Promise (r .history)) rs
+promised [] l e k = tt
+promised (r ∷ rs) l e k =
+    let s = of-held (r .history) (k .0) in
+    ((s, rw (e .0) at (demand3 (r .line) (l .0) (r .from) (r .events) (rw (e .0) s))), promised rs (l .1) (e .1) (k .1))
+
+-- no lost line was noted before a sending was over
+unlost : ⊥ → ⊥
+unlost q = q
 
 pub promises : Promises
 promises =
-    let r = runs .0 in (
-      promised usual refl (r .0) (λ q. q, (λ q. q, (λ q. q, (λ q. q, (λ q. q, (λ q. q, tt)))))),
+    promised keptRuns (refl, (refl, (refl, (refl, (refl, (refl, tt)))))) (runs .0) (
+      (unlost, (unlost, (unlost, (unlost, (unlost, (unlost, tt)))))),
       (
-        promised polled refl (r .1 .0) (λ q. q, (λ q. q, (λ q. q, tt))),
-        (
-          promised throughZero refl (r .1 .1 .0) (λ q. q, (λ q. q, (λ q. q, tt))),
-          (
-            promised stale refl (r .1 .1 .1 .0) (λ q. q, (λ q. q, (λ q. q, (λ q. q, tt)))),
-            (
-              promised cramped refl (r .1 .1 .1 .1 .0) (λ q. q, (λ q. q, tt)),
-              (
-                promised withheld refl (r .1 .1 .1 .1 .1 .0) (λ q. q, (λ q. q, tt)),
-                tt,
-              ),
-            ),
-          ),
-        ),
+        (unlost, (unlost, (unlost, tt))),
+        ((unlost, (unlost, (unlost, tt))), ((unlost, (unlost, (unlost, (unlost, tt)))), ((unlost, (unlost, tt)), ((unlost, (unlost, tt)), tt)))),
       ),
     )
 
@@ -67,8 +62,8 @@ absent {z = z} {y = y} {l = l} n f m = go (List·Memᴰ·cases-cons m)
 
 pub late-not-promised : LateNotPromised
 late-not-promised = (
-  (of-held lateSendingHistory (λ q. q, (λ q. q, (λ q. q, tt))), λ p. omega (arith, p .noneTwice .1 .0)),
-  ((of-held lateAnswerHistory (λ q. q, (λ q. q, (λ q. q, tt))), λ p. absent (λ q. omega (arith, q)) (absent (λ q. omega (arith, q)) List·Memᴰ·not-nil) (p .kept .0 tt)), tt),
+  (of-held lateSendingHistory (unlost, (unlost, (unlost, tt))), λ p. omega (arith, p .noneTwice .1 .0)),
+  ((of-held lateAnswerHistory (unlost, (unlost, (unlost, tt))), λ p. absent (λ q. omega (arith, q)) (absent (λ q. omega (arith, q)) List·Memᴰ·not-nil) (p .kept .0 tt)), tt),
 )
 
 -- lists of one length that are equal up to the last are equal

@@ -129,7 +129,8 @@ module _ {E : Ends} where
   -- "over one line, where each sending is lost or arrives once, whole or so spoiled that checks 1 to 7 refuse it, while the master
   -- still waits on it or, for an answer, on the sending it answers."
   -- What is on the line is the newest sending or its answer, and arriving takes it off. More runs than the demand's are allowed: T2 may
-  -- have run out, a sending may be replaced by the next before it is lost or arrives, and the times are any numbers in any order.
+  -- have run out, a sending may be replaced by the next before it is lost or arrives, and the times are any numbers in any order; `Allowed`
+  -- tells the demand's own.
   abbrev pub step : Ev E → Sys E → Sys E
   step (offer t o r) (sys m d w x h) = mdo (E .offer m t o r) d w x h
   step (mtick t r) (sys m d w x h) = mdo (E .mtick m t r) d w x h

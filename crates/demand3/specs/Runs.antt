@@ -216,12 +216,17 @@ lateAnswerHistory =
     answered lastPlace yes 1 ∷ sent lastPlace ∷ answered nextPlace nextYes 1 ∷ over nextPlace ∷ handled nextPlace nextYes ∷ sent nextPlace ∷
     answered poll yes 2 ∷ over poll ∷ again poll ∷ over poll ∷ handled poll yes ∷ sent poll ∷ []
 
+-- runs in which the supposition and the promise hold, and runs in which they fail
+abbrev pub keptRuns : List Run
+keptRuns = usual ∷ polled ∷ throughZero ∷ stale ∷ cramped ∷ withheld ∷ []
+
+abbrev pub brokenRuns : List Run
+brokenRuns = twice ∷ later ∷ []
+
 -- what happens in each
 abbrev pub Runs : Type 0
-Runs =
-    All Happens (usual ∷ polled ∷ throughZero ∷ stale ∷ cramped ∷ withheld ∷ twice ∷ later ∷ [])
-    × (lateSending ≡ lateSendingHistory) × (lateAnswer ≡ lateAnswerHistory)
+Runs = All Happens keptRuns × All Happens brokenRuns × (lateSending ≡ lateSendingHistory) × (lateAnswer ≡ lateAnswerHistory)
 
--- each is a run of the demand's line, but for `withheld` and the late ones
+-- Each is a run of the demand's line, but for `withheld` and the late ones.
 abbrev pub AllowedRuns : Type 0
-AllowedRuns = All Allowed (usual ∷ polled ∷ throughZero ∷ stale ∷ cramped ∷ twice ∷ later ∷ [])
+AllowedRuns = All Allowed (usual ∷ polled ∷ throughZero ∷ stale ∷ cramped ∷ brokenRuns) × (Allowed withheld → ⊥)

@@ -5,19 +5,19 @@ use Prim.Native.Nat.{ℕ}
 use Rattle.laws.specs.Truth.{All}
 use Rattle.demand3.specs.History.{Tel, mades, gots}
 use Rattle.demand3.specs.Demand.{Was, NoLostInside, Promise, UpToLast}
-use Rattle.demand3.specs.Runs.{History, Run, usual, polled, throughZero, stale, cramped, withheld, twice, later, lateSendingHistory, lateAnswerHistory}
+use Rattle.demand3.specs.Runs.{History, Run, stale, keptRuns, brokenRuns, lateSendingHistory, lateAnswerHistory}
 
--- Of these the supposition and the promise hold.
+-- the supposition and the promise hold of the first runs,
 abbrev pub Promises : Type 0
-Promises = All (λ (r : Run). NoLostInside (r .history) × Promise (r .history)) (usual ∷ polled ∷ throughZero ∷ stale ∷ cramped ∷ withheld ∷ [])
+Promises = All (λ (r : Run). NoLostInside (r .history) × Promise (r .history)) keptRuns
 
--- Of these the supposition fails,
+-- the supposition fails of the others,
 abbrev pub NotSupposed : Type 0
-NotSupposed = All (λ (r : Run). NoLostInside (r .history) → ⊥) (twice ∷ later ∷ [])
+NotSupposed = All (λ (r : Run). NoLostInside (r .history) → ⊥) brokenRuns
 
--- and the promise does.
+-- and so does the promise.
 abbrev pub NotPromised : Type 0
-NotPromised = All (λ (r : Run). Promise (r .history) → ⊥) (twice ∷ later ∷ [])
+NotPromised = All (λ (r : Run). Promise (r .history) → ⊥) brokenRuns
 
 -- Where things arrive late the supposition holds, and the promise fails.
 abbrev pub LateNotPromised : Type 0
