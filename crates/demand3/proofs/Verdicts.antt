@@ -10,7 +10,7 @@ use Rattle.laws.specs.Truth.{All}
 use Rattle.forms.specs.Lines.{isLine}
 use Rattle.demand3.specs.History.{Tel, over, handled, again}
 use Rattle.demand3.specs.Demand.{NoLostInside, Promise, UpToLast, now, all, butLast}
-use Rattle.demand3.specs.Runs.{Run, Happens, keptRuns, place, poll, yes, lateSendingHistory, lateAnswerHistory}
+use Rattle.demand3.specs.Runs.{Run, Happens, keptRuns, place, poll, approved, lateSendingHistory, lateAnswerHistory}
 use Rattle.demand3.specs.Verdicts.{Promises, NotSupposed, NotPromised, LateNotPromised, StaleNot}
 use Rattle.demand3.proofs.Stepwise.{Held, of-held}
 use Rattle.demand3.proofs.Theorem.{demand3}
@@ -40,8 +40,8 @@ promises =
 
 pub not-supposed : NotSupposed
 not-supposed = (
-  λ k. k (over poll ∷ handled poll yes ∷ []) _ poll refl (inl refl) now,
-  (λ k. k (over poll ∷ handled poll yes ∷ again poll ∷ []) _ poll refl (inl refl) now, tt),
+  λ k. k (over poll ∷ handled poll approved ∷ []) _ poll refl (inl refl) now,
+  (λ k. k (over poll ∷ handled poll approved ∷ again poll ∷ []) _ poll refl (inl refl) now, tt),
 )
 
 -- the ordinals do not fall
@@ -77,7 +77,7 @@ newest [] = 0
 newest (z ∷ l) = z .0 .0
 
 pub stale-not : StaleNot
-stale-not = (λ f. unhandled (f place yes (List·Memᴰ·head refl)), λ u. let q : _≡_ {A = ℕ} 1 0 = ap newest (as-long u refl) in omega (arith, q))
+stale-not = (λ f. unhandled (f place approved (List·Memᴰ·head refl)), λ u. let q : _≡_ {A = ℕ} 1 0 = ap newest (as-long u refl) in omega (arith, q))
   where
     unhandled : (place ≡ poll) ⊎ ⊥ → ⊥
     unhandled (inl e) = let q = ap (λ (z : Tel (List ℕ)). z .0) e in omega (arith, q)

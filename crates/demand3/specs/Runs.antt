@@ -24,6 +24,13 @@ room = replicate longest 0
 abbrev pub telegram : String → List ℕ
 telegram text = lf ∷ (codes text ++ (cr ∷ []))
 
+-- A with number 0, and with number 1
+abbrev pub approved : List ℕ
+approved = telegram "08A0AAA5"
+
+abbrev pub nextApproved : List ℕ
+nextApproved = telegram "08A1AAA4"
+
 abbrev pub History : Type 0
 History = Hist (List ℕ) (List ℕ)
 
@@ -59,9 +66,9 @@ usual = record {
       offer 3000 (Train 123456) room ∷ whole 3010 room ∷ lost ∷ mtick 5000 room ∷ spoilt 5010 (telegram "13n1T12345675") room ∷ whole 5020 room ∷
       whole 5030 room ∷ whole 5040 room ∷ [];
   history =
-      answered nextTrain (telegram "08A1AAA4") 3 ∷ over nextTrain ∷ again nextTrain ∷ over nextTrain ∷ again nextTrain ∷ over nextTrain ∷
-      handled nextTrain (telegram "08A1AAA4") ∷ sent nextTrain ∷ answered train (telegram "08A0AAA5") 3 ∷ over train ∷
-      handled train (telegram "08A0AAA5") ∷ again train ∷ over train ∷ again train ∷ over train ∷ sent train ∷ [];
+      answered nextTrain nextApproved 3 ∷ over nextTrain ∷ again nextTrain ∷ over nextTrain ∷ again nextTrain ∷ over nextTrain ∷
+      handled nextTrain nextApproved ∷ sent nextTrain ∷ answered train approved 3 ∷ over train ∷
+      handled train approved ∷ again train ∷ over train ∷ again train ∷ over train ∷ sent train ∷ [];
 }
 
 -- The customer's fault on line 3: the answer to t is lost, and another record waits when the master asks again. The same record arrives,
@@ -75,11 +82,11 @@ poll = (0, telegram "08t0Bt3E")
 abbrev pub nextPoll : Tel (List ℕ)
 nextPoll = (1, telegram "08t1Bt3D")
 
-abbrev pub data₀ : List ℕ
-data₀ = telegram "28K0FC01D02C03M:AV:ABP1234F0"
+abbrev pub radioData : List ℕ
+radioData = telegram "28K0FC01D02C03M:AV:ABP1234F0"
 
-abbrev pub data₁ : List ℕ
-data₁ = telegram "28K1FC01D02C03M:AV:ABP4321EF"
+abbrev pub nextRadioData : List ℕ
+nextRadioData = telegram "28K1FC01D02C03M:AV:ABP4321EF"
 
 abbrev pub polled : Run
 polled = record {
@@ -89,8 +96,8 @@ polled = record {
       act (queues (radio 1234)) ∷ mtick 20000 room ∷ whole 20010 room ∷ lost ∷ act (queues (radio 4321)) ∷ mtick 22000 room ∷ whole 22010 room ∷
       whole 22020 room ∷ mtick 42000 room ∷ whole 42010 room ∷ whole 42020 room ∷ [];
   history =
-      answered nextPoll data₁ 1 ∷ over nextPoll ∷ handled nextPoll data₁ ∷ sent nextPoll ∷
-      answered poll data₀ 2 ∷ over poll ∷ again poll ∷ over poll ∷ handled poll data₀ ∷ sent poll ∷ [];
+      answered nextPoll nextRadioData 1 ∷ over nextPoll ∷ handled nextPoll nextRadioData ∷ sent nextPoll ∷
+      answered poll radioData 2 ∷ over poll ∷ again poll ∷ over poll ∷ handled poll radioData ∷ sent poll ∷ [];
 }
 
 -- Through the clock's zero on line 1: the answer to a poll is lost, and T2 and T0 run out behind zero, at 2,000 and 20,000 and not before.
@@ -113,10 +120,6 @@ throughZero = record {
       handled request (telegram "21B0L125%090H120R88EC") ∷ sent request ∷ [];
 }
 
--- the answer A to the telegrams below
-abbrev pub yes : List ℕ
-yes = telegram "08A0AAA5"
-
 -- Answered but not handled: the answer is lost, then two more sendings, and the master gives up; the next telegram has number 0 again, is
 -- taken for a repeat, and gets the stored answer.
 abbrev pub place : Tel (List ℕ)
@@ -130,8 +133,8 @@ stale = record {
       offer 0 (Idling (code "t")) room ∷ whole 10 room ∷ lost ∷ mtick 2000 room ∷ lost ∷ mtick 4000 room ∷ lost ∷ mtick 6000 room ∷
       offer 6001 (Position 1234) room ∷ whole 6010 room ∷ whole 6020 room ∷ [];
   history =
-      answered place yes 1 ∷ over place ∷ sent place ∷ gaveUp poll 3 ∷ over poll ∷ again poll ∷ over poll ∷ again poll ∷ over poll ∷
-      handled poll yes ∷ sent poll ∷ [];
+      answered place approved 1 ∷ over place ∷ sent place ∷ gaveUp poll 3 ∷ over poll ∷ again poll ∷ over poll ∷ again poll ∷ over poll ∷
+      handled poll approved ∷ sent poll ∷ [];
 }
 
 -- Refused calls: an offer without room and one while the master waits do nothing, and a call under 66 bytes of room hears nothing, so that
@@ -143,7 +146,7 @@ cramped = record {
   events =
       offer 0 (Idling (code "t")) [] ∷ offer 0 (Idling (code "t")) room ∷ offer 5 (Idling (code "t")) room ∷ whole 10 (replicate 65 0) ∷
       mtick 2000 room ∷ whole 2010 room ∷ whole 2020 (replicate 65 0) ∷ whole 2030 room ∷ [];
-  history = over poll ∷ handled poll yes ∷ again poll ∷ over poll ∷ sent poll ∷ [];
+  history = over poll ∷ handled poll approved ∷ again poll ∷ over poll ∷ sent poll ∷ [];
 }
 
 -- What the line does not bring: bytes that were not sent and pass checks 1 to 7, and a sending still on the line when the master gives up.
@@ -164,7 +167,7 @@ twice = record {
   line = 2;
   from = 0;
   events = offer 0 (Idling (code "t")) room ∷ whole 10 room ∷ lost ∷ mtick 28005 room ∷ whole 28010 room ∷ [];
-  history = over poll ∷ handled poll yes ∷ noted ∷ again poll ∷ over poll ∷ handled poll yes ∷ sent poll ∷ [];
+  history = over poll ∷ handled poll approved ∷ noted ∷ again poll ∷ over poll ∷ handled poll approved ∷ sent poll ∷ [];
 }
 
 -- Handled twice: the lost line is noted while no sending is under way, and then the master sends again. A supposition that looks only at
@@ -174,7 +177,7 @@ later = record {
   line = 2;
   from = 0;
   events = offer 0 (Idling (code "t")) room ∷ whole 10 room ∷ lost ∷ dtick 28010 ∷ mtick 28020 room ∷ whole 28030 room ∷ [];
-  history = over poll ∷ handled poll yes ∷ again poll ∷ noted ∷ over poll ∷ handled poll yes ∷ sent poll ∷ [];
+  history = over poll ∷ handled poll approved ∷ again poll ∷ noted ∷ over poll ∷ handled poll approved ∷ sent poll ∷ [];
 }
 
 -- What the line does not allow: a thing that arrives after the master stopped waiting on it. Behind a run the desk hears this telegram,
@@ -191,9 +194,6 @@ nextPlace = (1, telegram "11F1P12340D")
 abbrev pub lastPlace : Tel (List ℕ)
 lastPlace = (2, telegram "11F0P43210E")
 
-abbrev pub nextYes : List ℕ
-nextYes = telegram "08A1AAA4"
-
 -- A first sending, kept back until the next telegram was handled, would be handled again, out of order.
 abbrev pub lateSending : History
 lateSending =
@@ -202,19 +202,19 @@ lateSending =
 
 abbrev pub lateSendingHistory : History
 lateSendingHistory =
-    over poll ∷ handled poll yes ∷ over nextPlace ∷ handled nextPlace nextYes ∷ sent nextPlace ∷ answered poll yes 2 ∷ over poll ∷
-    handled poll yes ∷ again poll ∷ sent poll ∷ []
+    over poll ∷ handled poll approved ∷ over nextPlace ∷ handled nextPlace nextApproved ∷ sent nextPlace ∷ answered poll approved 2 ∷ over poll ∷
+    handled poll approved ∷ again poll ∷ sent poll ∷ []
 
 -- An answer, kept back until the next telegram with its number was sent, would be taken for the answer to that one, which was not handled.
 abbrev pub lateAnswer : History
 lateAnswer =
     masterHears (run (start (ours 2) 0 []) (offer 0 (Idling (code "t")) room ∷ whole 10 room ∷ mtick 2000 room ∷ whole 2010 room ∷ whole 2020 room ∷
-    offer 2030 (Position 1234) room ∷ whole 2040 room ∷ whole 2050 room ∷ offer 2060 (Position 4321) room ∷ [])) 2070 yes
+    offer 2030 (Position 1234) room ∷ whole 2040 room ∷ whole 2050 room ∷ offer 2060 (Position 4321) room ∷ [])) 2070 approved
 
 abbrev pub lateAnswerHistory : History
 lateAnswerHistory =
-    answered lastPlace yes 1 ∷ sent lastPlace ∷ answered nextPlace nextYes 1 ∷ over nextPlace ∷ handled nextPlace nextYes ∷ sent nextPlace ∷
-    answered poll yes 2 ∷ over poll ∷ again poll ∷ over poll ∷ handled poll yes ∷ sent poll ∷ []
+    answered lastPlace approved 1 ∷ sent lastPlace ∷ answered nextPlace nextApproved 1 ∷ over nextPlace ∷ handled nextPlace nextApproved ∷ sent nextPlace ∷
+    answered poll approved 2 ∷ over poll ∷ again poll ∷ over poll ∷ handled poll approved ∷ sent poll ∷ []
 
 -- runs in which the supposition and the promise hold, and runs in which they fail
 abbrev pub keptRuns : List Run
