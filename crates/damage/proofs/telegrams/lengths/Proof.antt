@@ -1,8 +1,8 @@
--- `cases::damage::lengths` meets its contract. Assumes nothing.
+-- `lengths` goes from length to length. Assumes nothing.
 use borrow.Author.Needs.{needs}
 use Prim.Native.Nat.{_≤_, _-_}
-use Rattle.cases.proofs.damage.lengths.Statement.{statement}
-use Rattle.cases.proofs.damage.lengths.Tie as tie
+use Rattle.damage.proofs.telegrams.lengths.Statement.{statement}
+use Rattle.damage.proofs.telegrams.lengths.Tie as tie
 
 abbrev Inv-loop : tie.InvT-loop
 Inv-loop long good₀ n₀ good n = n ≤ 4096

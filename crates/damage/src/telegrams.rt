@@ -1,13 +1,10 @@
 // Case h with every byte replaced by every value, and inputs of many lengths: what the rules give is written here by hand.
-use crate::show;
 use characters::slices::part;
 use characters::slices::wide;
 use reading::answers::Reading;
 use reading::reading::read;
 use records::refusals::number_of;
 use records::refusals::place_of;
-use text::numbers::put_number;
-use text::putting::put_text;
 
 // Case h: LF, 21, B, 0, L125 %090 H120 R88, EC, CR.
 const H: [u8; 23] = [
@@ -170,7 +167,8 @@ fn counted(index: usize, b: u8, right: bool) -> u64 {
     }
 }
 
-fn all(index: usize, right: bool) -> u64 {
+// How many of the 256 values of a byte read as is due.
+pub(crate) fn all(index: usize, right: bool) -> u64 {
     let mut n: u64 = 0;
     for b in 0..256u32 {
         n = std::num::wrapping_add_u64(n, counted(index, (b % 256) as u8, right));
@@ -193,7 +191,8 @@ fn of_length(long: &[u8], n: usize) -> bool {
     is_due(read(2, part(long, 0, n)), due_of_length(n))
 }
 
-fn lengths() -> u64 {
+// How many of the lengths 0 to 4095 read as is due.
+pub(crate) fn lengths() -> u64 {
     let mut long = [b'0'; 4096];
     long[0] = b'\n';
     let mut good: u64 = 0;
@@ -203,42 +202,4 @@ fn lengths() -> u64 {
         }
     }
     good
-}
-
-// A row of the readings of case h with one byte replaced.
-fn row(out: &mut [u8], index: usize, how: &[u8], n: u64) {
-    let a = put_text(out, 0, b"h, byte ");
-    let b = put_number(out, a, index as u64);
-    let c = put_text(out, b, how);
-    let d = put_text(out, c, b": expected 256 of 256, came ");
-    let e = show::of(out, d, n, b"256");
-    show::end(out, e);
-}
-
-fn replaced_row(out: &mut [u8], index: usize) {
-    row(out, index, b" replaced", all(index, false));
-}
-
-fn right_row(out: &mut [u8], index: usize) {
-    row(out, index, b" replaced, sum made right", all(index, true));
-}
-
-fn as_it_was(out: &mut [u8]) {
-    for index in 0..23usize {
-        replaced_row(out, index);
-    }
-}
-
-fn made_right(out: &mut [u8]) {
-    for index in 3..20usize {
-        right_row(out, index);
-    }
-}
-
-pub(crate) fn run(out: &mut [u8]) {
-    as_it_was(out);
-    made_right(out);
-    let a = show::case(out, b"lengths 0 to 4095", b"4096 of 4096");
-    let b = show::of(out, a, lengths(), b"4096");
-    show::end(out, b);
 }

@@ -1,8 +1,8 @@
--- `cases::damage::all` meets its contract. Assumes nothing.
+-- `all` goes from value to value. Assumes nothing.
 use borrow.Author.Needs.{needs}
 use Prim.Native.Nat.{_≤_, _-_}
-use Rattle.cases.proofs.damage.all.Statement.{statement}
-use Rattle.cases.proofs.damage.all.Tie as tie
+use Rattle.damage.proofs.telegrams.all.Statement.{statement}
+use Rattle.damage.proofs.telegrams.all.Tie as tie
 
 abbrev Inv-loop : tie.InvT-loop
 Inv-loop index right n₀ b₀ n b = b ≤ 256

@@ -1,8 +1,8 @@
--- `cases::damage::with_sum` meets its contract. Assumes nothing.
+-- `with_sum` adds byte after byte. Assumes nothing.
 use borrow.Author.Needs.{needs}
 use Prim.Native.Nat.{_≤_, _<_, _-_}
-use Rattle.cases.proofs.damage.with_sum.Statement.{statement}
-use Rattle.cases.proofs.damage.with_sum.Tie as tie
+use Rattle.damage.proofs.telegrams.with_sum.Statement.{statement}
+use Rattle.damage.proofs.telegrams.with_sum.Tie as tie
 
 abbrev Inv-loop : tie.InvT-loop
 Inv-loop t sum₀ i₀ sum i = (i ≤ 20) × (sum < 256)

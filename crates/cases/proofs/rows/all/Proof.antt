@@ -4,14 +4,17 @@ use Prim.Native.Nat.{_≤_, _-_}
 use native.Mathlib.Omega.{arith}
 use lib.ListN.{length}
 use borrow.Author.Needs.{needs}
-use Rattle.cases.proofs.vectors.all.Statement.{statement}
-use Rattle.cases.proofs.vectors.all.Tie as tie
+use Rattle.cases.proofs.rows.all.Statement.{statement}
+use Rattle.cases.proofs.rows.all.Tie as tie
 
 abbrev Inv-loop : tie.InvT-loop
-Inv-loop text out₀ k₀ out k = (k ≤ 1000) × (length out ≡ length out₀)
+Inv-loop text out₀ tally₀ k₀ out tally k = (k ≤ 65536) × (length out ≡ length out₀)
 
 abbrev μ-loop : tie.MeasureT-loop
-μ-loop text out₀ k₀ out k = 1000 - k
+μ-loop text out₀ tally₀ k₀ out tally k = 65536 - k
+
+start-requires : tie.Need-start-requires Inv-loop μ-loop
+start-requires c κs = search needs
 
 loop-holds : tie.Need-loop-holds Inv-loop μ-loop
 loop-holds c = (omega arith, refl)
@@ -27,9 +30,6 @@ returns c = search needs
 
 one-requires : tie.Need-one-requires Inv-loop μ-loop
 one-requires c κs = search needs
-
-end-requires : tie.Need-end-requires Inv-loop μ-loop
-end-requires c κs = search needs
 
 add-k : tie.Need-add-k Inv-loop μ-loop
 add-k c = search needs
@@ -52,12 +52,12 @@ all-spec =
     (tie.spec
     Inv-loop
     μ-loop
+    start-requires
     loop-holds
     field-requires
     same-length
     returns
     one-requires
-    end-requires
     add-k
     loop-less
     loop-again
