@@ -7,31 +7,7 @@ use records::refusals::number_of;
 use records::refusals::place_of;
 
 // Case h: LF, 21, B, 0, L125 %090 H120 R88, EC, CR.
-const H: [u8; 23] = [
-    b'\n',
-    b'2',
-    b'1',
-    b'B',
-    b'0',
-    b'L',
-    b'1',
-    b'2',
-    b'5',
-    b'%',
-    b'0',
-    b'9',
-    b'0',
-    b'H',
-    b'1',
-    b'2',
-    b'0',
-    b'R',
-    b'8',
-    b'8',
-    b'E',
-    b'C',
-    b'\r',
-];
+const H: [u8; 23] = *b"\n21B0L125%090H120R88EC\r";
 
 // A refusal and its place; 0 where the telegram is accepted.
 struct Due(u8, usize);
@@ -142,38 +118,36 @@ fn original(index: usize) -> u8 {
     if index < 23 { t[index] } else { 0 }
 }
 
-fn one(index: usize, b: u8) -> bool {
+fn telegram(index: usize, b: u8, right: bool) -> [u8; 23] {
     let t = replaced(index, b);
-    if b == original(index) {
-        return is_due(read(1, &t), Due(0, 0));
-    }
-    is_due(read(1, &t), due_at(index))
+    if right { with_sum(t) } else { t }
 }
 
-fn one_right(index: usize, b: u8) -> bool {
-    let t = with_sum(replaced(index, b));
+fn due_of(index: usize, b: u8, right: bool) -> Due {
     if b == original(index) {
-        return is_due(read(1, &t), Due(0, 0));
+        return Due(0, 0);
     }
-    is_due(read(1, &t), due_when_right(index, b))
-}
-
-// 1 where the reading is what is due.
-fn counted(index: usize, b: u8, right: bool) -> u64 {
     if right {
-        if one_right(index, b) { 1 } else { 0 }
+        due_when_right(index, b)
     } else {
-        if one(index, b) { 1 } else { 0 }
+        due_at(index)
     }
+}
+
+fn one(index: usize, b: u8, right: bool) -> bool {
+    let t = telegram(index, b, right);
+    is_due(read(1, &t), due_of(index, b, right))
 }
 
 // How many of the 256 values of a byte read as is due.
 pub(crate) fn all(index: usize, right: bool) -> u64 {
-    let mut n: u64 = 0;
+    let mut good: u64 = 0;
     for b in 0..256u32 {
-        n = std::num::wrapping_add_u64(n, counted(index, (b % 256) as u8, right));
+        if one(index, (b % 256) as u8, right) {
+            good = std::num::wrapping_add_u64(good, 1);
+        }
     }
-    n
+    good
 }
 
 // Bytes LF 0 0 .. of many lengths: under 10 is 1, over 66 is 2, any other has a wrong count.

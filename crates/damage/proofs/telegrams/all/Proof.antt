@@ -1,23 +1,23 @@
 -- `all` goes from value to value. Assumes nothing.
-use borrow.Author.Needs.{needs}
 use Prim.Native.Nat.{_≤_, _-_}
+use borrow.Author.Needs.{needs}
 use Rattle.damage.proofs.telegrams.all.Statement.{statement}
 use Rattle.damage.proofs.telegrams.all.Tie as tie
 
 abbrev Inv-loop : tie.InvT-loop
-Inv-loop index right n₀ b₀ n b = b ≤ 256
+Inv-loop index right good₀ b₀ good b = b ≤ 256
 
 abbrev μ-loop : tie.MeasureT-loop
-μ-loop index right n₀ b₀ n b = 256 - b
+μ-loop index right good₀ b₀ good b = 256 - b
 
 loop-holds : tie.Need-loop-holds Inv-loop μ-loop
 loop-holds c = search needs
 
-cast-counted : tie.Need-cast-counted Inv-loop μ-loop
-cast-counted c = search needs
+cast-one : tie.Need-cast-one Inv-loop μ-loop
+cast-one c = search needs
 
-counted-requires : tie.Need-counted-requires Inv-loop μ-loop
-counted-requires c κs = search needs
+one-requires : tie.Need-one-requires Inv-loop μ-loop
+one-requires c κs = search needs
 
 wrapping-add-u64-requires : tie.Need-wrapping-add-u64-requires Inv-loop μ-loop
 wrapping-add-u64-requires c κs = search needs
@@ -41,8 +41,8 @@ all-spec =
     Inv-loop
     μ-loop
     loop-holds
-    cast-counted
-    counted-requires
+    cast-one
+    one-requires
     wrapping-add-u64-requires
     add-b
     loop-less
