@@ -1,6 +1,5 @@
 // A row for each thing that is compared.
 ghost use mathlib.Core.Path.{_≡_};
-ghost use mathlib.Core.Bool.{Bool};
 ghost use mathlib.Core.List.{_++_};
 ghost use Rattle.text.specs.Putting.{puts};
 ghost use Rattle.compared.specs.Rows.{endText, rowText};
