@@ -3,6 +3,7 @@
 use crate::demo::Ends;
 use std::ffi::OsStr;
 use std::io::{BufRead, BufReader, Result, Write};
+use std::path::Path;
 use std::process::{Child, ChildStdin, ChildStdout, Command, Stdio};
 
 /// The running program; it ends when this is dropped, as its input ends then.
@@ -17,6 +18,24 @@ pub fn command(path: impl AsRef<OsStr>) -> Command {
     let mut command = Command::new(concat!(env!("CARGO_MANIFEST_DIR"), "/../tools/run"));
     command.arg(path);
     command
+}
+
+/// What the built program of this name says of an input.
+pub fn said(name: &str, input: &str) -> String {
+    let path = Path::new(env!("CARGO_MANIFEST_DIR")).join(format!("../target/bin/{name}"));
+    assert!(path.is_file(), "build the program {name} first");
+    let mut child = command(path)
+        .stdin(Stdio::piped())
+        .stdout(Stdio::piped())
+        .spawn()
+        .expect("the program starts");
+    let mut pipe = child.stdin.take().expect("its input is a pipe");
+    std::thread::scope(|scope| {
+        scope.spawn(move || pipe.write_all(input.as_bytes()));
+        let output = child.wait_with_output().expect("it is waited for");
+        assert!(output.status.success(), "it ends well");
+        String::from_utf8(output.stdout).expect("it says text")
+    })
 }
 
 impl Program {

@@ -1,40 +1,20 @@
 //! Compares the built program `scenes` with the second version of the two ends: document 01,
 //! 'Link rules' and 'Numbered answers', and docs/SCENES.md for the rows.
 
-use host::program::command;
+use host::program::said;
 use host::random::Random;
 use host::script::run;
 use host::scripting::script;
-use std::io::Write;
 use std::path::{Path, PathBuf};
-use std::process::Stdio;
 
 /// A path in the repository.
 fn repository(path: &str) -> PathBuf {
     Path::new(env!("CARGO_MANIFEST_DIR")).join("..").join(path)
 }
 
-/// What the program says of a script.
-fn said(script: &str) -> String {
-    let program = repository("target/bin/scenes");
-    assert!(program.is_file(), "build the program scenes first");
-    let mut child = command(program)
-        .stdin(Stdio::piped())
-        .stdout(Stdio::piped())
-        .spawn()
-        .expect("the program starts");
-    let mut pipe = child.stdin.take().expect("its input is a pipe");
-    std::thread::scope(|scope| {
-        scope.spawn(move || pipe.write_all(script.as_bytes()));
-        let output = child.wait_with_output().expect("it is waited for");
-        assert!(output.status.success(), "it ends well");
-        String::from_utf8(output.stdout).expect("it says text")
-    })
-}
-
 /// Holds what the program says of a script against the second version, row by row.
 fn compare(name: &str, script: &str) {
-    let (got, want) = (said(script), run(script));
+    let (got, want) = (said("scenes", script), run(script));
     let lines = got.lines().zip(want.lines()).enumerate();
     let mut row = "";
     for (index, (got, want)) in lines {
