@@ -4,3 +4,4 @@ pub mod Lines
 pub mod Set
 pub mod Order
 pub mod Receiver
+pub mod Firsts
