@@ -5,3 +5,4 @@ pub mod Set
 pub mod Order
 pub mod Receiver
 pub mod Firsts
+pub mod Permitted
