@@ -6,3 +6,4 @@ pub mod Order
 pub mod Receiver
 pub mod Firsts
 pub mod Permitted
+pub mod EachForm
