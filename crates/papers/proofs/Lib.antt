@@ -7,3 +7,4 @@ pub mod Receiver
 pub mod Firsts
 pub mod Permitted
 pub mod EachForm
+pub mod Writing
