@@ -167,14 +167,14 @@ module _ (line : ℕ) (s : List ℕ) (f : Form) (right : lengthRight f s ≡ tru
   letters-first place h =
       let z : countOf f - 0 ≡ countOf f = omega arith in
       let r = finds-first (countOf f) (letterRight f s) (letterPlace f) letters-from letters-on letters-stop letters-end place (rw z h) in
-      record { packet = r .index; of-form = r .within; at-letter = r .at-place; fails = r .fails; before = r .before }
+      record { packet = r .index; of-form = r .within; at-letter = r .at-place; fails = r .fails; before = λ j a. r .before j (omega arith) }
 
   values-first : (place : ℕ) → badValue line (getD s 3 0) 5 (slotsOf f) (fieldOf s) ≡ At place → FirstPacket f (valueRight line f s) place
   unfolding slotsOf
   values-first place h =
       let z : countOf f - 0 ≡ countOf f = omega arith in
       let r = finds-first (countOf f) (valueRight line f s) (letterPlace f) values-from values-on values-stop values-end place (rw z h) in
-      record { packet = r .index; of-form = r .within; at-letter = r .at-place; fails = r .fails; before = r .before }
+      record { packet = r .index; of-form = r .within; at-letter = r .at-place; fails = r .fails; before = λ j a. r .before j (omega arith) }
 
   letters-none : wrongLetter 5 (slotsOf f) (fieldOf s) ≡ Nowhere → (j : ℕ) → j < countOf f → letterRight f s j ≡ true
   unfolding slotsOf
