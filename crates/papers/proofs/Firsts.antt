@@ -28,16 +28,19 @@ use Rattle.reading.specs.Field.{rowIn, outside, wrongLetter, badValue, misshape
 use Rattle.reading.specs.Reading.{checks, readingOf}
 use Rattle.reading.proofs.Walk.{byte-in, byte-out, letter-right, letter-wrong, value-right, value-wrong}
 use Rattle.roundtrips.proofs.Faults.{needs-held, no-fault}
-use Rattle.roundtrips.proofs.Checks.{accepted-only}
-use Rattle.papers.specs.Order.{checkAt, FirstCheck}
-use Rattle.papers.specs.Firsts.{NineFirst, OwnRow, RowKnown, filledBy, letterPlace, lengthRight, letterRight, valueRight, FirstPacket, TenFirst, ElevenFirst, AcceptedSound}
-use Rattle.papers.proofs.Order.{refused-first, no-line}
+use Rattle.papers.specs.Order.{FirstCheck}
+use Rattle.papers.specs.Firsts.{AllInside, FirstOutside, NineFirst, filledBy, letterPlace, lengthRight, letterRight, valueRight, EachPacket, FirstPacket, OwnRow}
+use Rattle.papers.specs.Firsts.{TenFirst, Shaped, ElevenFirst, AcceptedSound}
+use Rattle.papers.proofs.Order.{refused-first, accepted-clean, no-line}
 
--- a search along n things: it goes on over one that passes the test, stops at one that fails, and finds nothing behind the last
-module _ (n : ℕ) (test : ℕ → Bool) (place : ℕ → ℕ) (find : ℕ → Spot)
-    (on : (j : ℕ) → j < n → test j ≡ true → find j ≡ find (suc j))
-    (stop : (j : ℕ) → j < n → test j ≡ false → find j ≡ At (place j))
-    (end : find n ≡ Nowhere) where
+-- a walk along n things: it goes on over one that passes the test, stops at one that fails, and finds nothing behind the last
+record Walk (n : ℕ) (test : ℕ → Bool) (place : ℕ → ℕ) : Type 0 where
+  find : ℕ → Spot
+  on : (j : ℕ) → j < n → test j ≡ true → find j ≡ find (suc j)
+  stop : (j : ℕ) → j < n → test j ≡ false → find j ≡ At (place j)
+  end : find n ≡ Nowhere
+
+module _ (n : ℕ) (test : ℕ → Bool) (place : ℕ → ℕ) (x : Walk n test place) where
   -- the first that fails, and its place
   record FirstFailing (p : ℕ) : Type 0 where
     index : ℕ
@@ -46,29 +49,32 @@ module _ (n : ℕ) (test : ℕ → Bool) (place : ℕ → ℕ) (find : ℕ → S
     fails : test index ≡ false
     before : (i : ℕ) → i < index → test i ≡ true
 
-  -- what the search from j on finds, with k things left, where all before j pass
-  finds-from : (k j p : ℕ) → j + k ≡ n → ((i : ℕ) → i < j → test i ≡ true) → find j ≡ At p → FirstFailing p
-  finds-from zero j p e b h = let q : j ≡ n = omega arith in let z = sym end ∙ ap find (sym q) ∙ h in clash (cc)
+  -- what the walk from j on finds, with k things left, where all before j pass
+  finds-from : (k j p : ℕ) → j + k ≡ n → ((i : ℕ) → i < j → test i ≡ true) → x .find j ≡ At p → FirstFailing p
+  finds-from zero j p e b h = let q : j ≡ n = omega arith in let z = sym (x .end) ∙ ap (x .find) (sym q) ∙ h in clash (cc)
   finds-from (suc k) j p e b h =
       let l : j < n = omega arith in
       on-test (test j)
       (λ t.
       finds-from k (suc j) p (omega arith)
       (λ i a. order i j (b i) (λ c. let q : i ≡ j = omega arith in rw q t))
-      (sym (on j l t) ∙ h))
-      (λ t. let z : At (place j) ≡ At p = sym (stop j l t) ∙ h in record { index = j; within = l; at-place = cc; fails = t; before = b })
+      (sym (x .on j l t) ∙ h))
+      (λ t. let z : At (place j) ≡ At p = sym (x .stop j l t) ∙ h in record { index = j; within = l; at-place = cc; fails = t; before = b })
 
-  finds-first : (p : ℕ) → find 0 ≡ At p → FirstFailing p
+  finds-first : (p : ℕ) → x .find 0 ≡ At p → FirstFailing p
   finds-first p h = finds-from n 0 p (omega arith) (λ i a. let z : ⊥ = omega arith in absurd z) h
 
-  -- a search that finds nothing from j on: all from j on pass
-  finds-none : (k j : ℕ) → j + k ≡ n → find j ≡ Nowhere → (i : ℕ) → j ≤ i → i < n → test i ≡ true
-  finds-none zero j e h i a b = let z : ⊥ = omega arith in absurd z
-  finds-none (suc k) j e h i a b =
+  -- where the walk finds nothing from j on, all from j on pass
+  none-from : (k j : ℕ) → j + k ≡ n → x .find j ≡ Nowhere → (i : ℕ) → j ≤ i → i < n → test i ≡ true
+  none-from zero j e h i a b = let z : ⊥ = omega arith in absurd z
+  none-from (suc k) j e h i a b =
       let l : j < n = omega arith in
       on-test (test j)
-      (λ t. order j i (λ c. finds-none k (suc j) (omega arith) (sym (on j l t) ∙ h) i c b) (λ c. let q : i ≡ j = omega arith in rw q t))
-      (λ t. let z : At (place j) ≡ Nowhere = sym (stop j l t) ∙ h in clash (cc))
+      (λ t. order j i (λ c. none-from k (suc j) (omega arith) (sym (x .on j l t) ∙ h) i c b) (λ c. let q : i ≡ j = omega arith in rw q t))
+      (λ t. let z : At (place j) ≡ Nowhere = sym (x .stop j l t) ∙ h in clash (cc))
+
+  finds-none : x .find 0 ≡ Nowhere → (i : ℕ) → i < n → test i ≡ true
+  finds-none h i = none-from n 0 (omega arith) h i (omega arith)
 
 -- the data field is the bytes from index 5 on, 8 fewer than all
 module _ (s : List ℕ) where
@@ -90,24 +96,37 @@ module _ (s : List ℕ) where
       drop-take-part (suc m) (suc i) w [] h = refl
       drop-take-part (suc m) (suc i) w (x ∷ l) h = drop-take-part m i w l (omega arith)
 
-  -- the search for a byte outside the set
-  abbrev sets : ℕ → Bool
-  sets i = inSet (getD s (5 + i) 0)
-
-  abbrev outside-from : ℕ → Spot
-  outside-from i = outside (5 + i) (drop i (fieldOf s))
-
-  outside-on : (i : ℕ) → i < length s - 8 → sets i ≡ true → outside-from i ≡ outside-from (suc i)
-  outside-on i h t = rw (← (add-one i)) (byte-in (fieldOf s) i (rw field-length h) (rw (field-byte i h) t))
-
-  outside-stop : (i : ℕ) → i < length s - 8 → sets i ≡ false → outside-from i ≡ At (5 + i)
-  outside-stop i h t = byte-out (fieldOf s) i (rw field-length h) (rw (field-byte i h) t)
-
-  outside-end : outside-from (length s - 8) ≡ Nowhere
+  -- the walk along the bytes for one outside the set
+  outsides : Walk (length s - 8) (λ i. inSet (getD s (5 + i) 0)) (λ i. 5 + i)
   unfolding outside
-  outside-end = rw (← field-length, drop-length (fieldOf s))
+  outsides =
+      record {
+        find = λ i. outside (5 + i) (drop i (fieldOf s));
+        on = λ i h t. rw (add-one i) at (byte-in (fieldOf s) i (rw field-length h) (rw (field-byte i h) t));
+        stop = λ i h t. byte-out (fieldOf s) i (rw field-length h) (rw (field-byte i h) t);
+        end = rw (← field-length, drop-length (fieldOf s));
+      }
 
--- the searches along the packets of a form, in a data field of its length
+  -- what it finds first, and where it finds nothing
+  outside-first : (place : ℕ) → outside 5 (fieldOf s) ≡ At place → FirstOutside s place
+  unfolding outsides outside
+  outside-first place h =
+      let r = finds-first _ _ _ outsides place h in
+      record {
+        in-field = (omega (arith, r .at-place), omega (arith, r .at-place, r .within));
+        outside = rw (r .at-place) (r .fails);
+        before = λ i a b.
+            let e : i ≡ 5 + (i - 5) = omega arith in
+            ap (λ (k : ℕ). inSet (getD s k 0)) e ∙ r .before (i - 5) (omega (arith, r .at-place));
+      }
+
+  outside-none : outside 5 (fieldOf s) ≡ Nowhere → AllInside s
+  unfolding outsides outside
+  outside-none h i a =
+      let e : i ≡ 5 + (i - 5) = omega (arith, a .0) in
+      ap (λ (k : ℕ). inSet (getD s k 0)) e ∙ finds-none _ _ _ outsides h (i - 5) (omega (arith, a .0, a .1))
+
+-- the walks along the packets of a form, in a data field of its length
 module _ (line : ℕ) (s : List ℕ) (f : Form) (right : lengthRight f s ≡ true) where
   abbrev rest-of : ℕ → List Slot
   rest-of j = slotsIn (countOf f - j) (drop j (f .letters)) (drop j (f .lens))
@@ -130,77 +149,71 @@ module _ (line : ℕ) (s : List ℕ) (f : Form) (right : lengthRight f s ≡ tru
       let e : 5 + (filledBy f j + 1) ≡ letterPlace f j + 1 = omega arith in
       field-part s (filledBy f j + 1) (getD (f .lens) j 0) (omega (arith, packet-within j h)) ∙ rw e
 
-  abbrev letters-from : ℕ → Spot
-  letters-from j = wrongLetter (letterPlace f j) (rest-of j) (drop (filledBy f j) (fieldOf s))
+  no-packets : rest-of (countOf f) ≡ []
+  no-packets = slots-end (drop (countOf f) (f .letters)) (drop (countOf f) (f .lens)) (countOf f) (countOf f) (omega arith)
 
-  letters-on : (j : ℕ) → j < countOf f → letterRight f s j ≡ true → letters-from j ≡ letters-from (suc j)
-  letters-on j h t =
-      rw (add-one j) at
-      (letter-right (f .letters) (f .lens) (fieldOf s) (countOf f) j (filledBy f j) h (getD (f .lens) j 0) refl (same-letter j h ∙ eqb-true _ _ t))
+  all-packets : rest-of 0 ≡ slotsOf f
+  unfolding slotsOf
+  all-packets = let z : countOf f - 0 ≡ countOf f = omega arith in rw z
 
-  letters-stop : (j : ℕ) → j < countOf f → letterRight f s j ≡ false → letters-from j ≡ At (letterPlace f j)
-  letters-stop j h t =
-      letter-wrong (f .letters) (f .lens) (fieldOf s) (countOf f) j (filledBy f j) h (λ e. eqb-false _ _ t (sym (same-letter j h) ∙ e))
-
-  letters-end : letters-from (countOf f) ≡ Nowhere
+  letters : Walk (countOf f) (letterRight f s) (letterPlace f)
   unfolding wrongLetter
-  letters-end = rw (slots-end (drop (countOf f) (f .letters)) (drop (countOf f) (f .lens)) (countOf f) (countOf f) (omega arith))
+  letters =
+      record {
+        find = λ j. wrongLetter (letterPlace f j) (rest-of j) (drop (filledBy f j) (fieldOf s));
+        on = λ j h t.
+            rw (add-one j) at
+            (letter-right (f .letters) (f .lens) (fieldOf s) (countOf f) j (filledBy f j) h (getD (f .lens) j 0) refl (same-letter j h ∙ eqb-true _ _ t));
+        stop = λ j h t.
+            letter-wrong (f .letters) (f .lens) (fieldOf s) (countOf f) j (filledBy f j) h (λ e. eqb-false _ _ t (sym (same-letter j h) ∙ e));
+        end = rw no-packets;
+      }
 
-  abbrev values-from : ℕ → Spot
-  values-from j = badValue line (getD s 3 0) (letterPlace f j) (rest-of j) (drop (filledBy f j) (fieldOf s))
-
-  values-on : (j : ℕ) → j < countOf f → valueRight line f s j ≡ true → values-from j ≡ values-from (suc j)
-  values-on j h t =
-      rw (add-one j) at
-      (value-right (f .letters) (f .lens) (fieldOf s) (countOf f) j (filledBy f j) h line (getD s 3 0) (getD (f .lens) j 0) refl (rw (same-value j h) t))
-
-  values-stop : (j : ℕ) → j < countOf f → valueRight line f s j ≡ false → values-from j ≡ At (letterPlace f j)
-  values-stop j h t =
-      value-wrong (f .letters) (f .lens) (fieldOf s) (countOf f) j (filledBy f j) h line (getD s 3 0) (getD (f .lens) j 0) refl (rw (same-value j h) t)
-
-  values-end : values-from (countOf f) ≡ Nowhere
+  values : Walk (countOf f) (valueRight line f s) (letterPlace f)
   unfolding badValue
-  values-end = rw (slots-end (drop (countOf f) (f .letters)) (drop (countOf f) (f .lens)) (countOf f) (countOf f) (omega arith))
+  values =
+      record {
+        find = λ j. badValue line (getD s 3 0) (letterPlace f j) (rest-of j) (drop (filledBy f j) (fieldOf s));
+        on = λ j h t.
+            rw (add-one j) at
+            (value-right (f .letters) (f .lens) (fieldOf s) (countOf f) j (filledBy f j) h line (getD s 3 0) (getD (f .lens) j 0) refl (rw (same-value j h) t));
+        stop = λ j h t.
+            value-wrong (f .letters) (f .lens) (fieldOf s) (countOf f) j (filledBy f j) h line (getD s 3 0) (getD (f .lens) j 0) refl (rw (same-value j h) t);
+        end = rw no-packets;
+      }
+
+  -- the first packet that fails a test
+  first-packet : (test : ℕ → Bool) (x : Walk (countOf f) test (letterPlace f)) (place : ℕ) → x .find 0 ≡ At place → FirstPacket f test place
+  first-packet test x place h =
+      let r = finds-first _ _ _ x place h in
+      record { packet = r .index; of-form = r .within; at-letter = r .at-place; fails = r .fails; before = λ j a. r .before j (omega arith) }
 
   letters-first : (place : ℕ) → wrongLetter 5 (slotsOf f) (fieldOf s) ≡ At place → FirstPacket f (letterRight f s) place
-  unfolding slotsOf
-  letters-first place h =
-      let z : countOf f - 0 ≡ countOf f = omega arith in
-      let r = finds-first (countOf f) (letterRight f s) (letterPlace f) letters-from letters-on letters-stop letters-end place (rw z h) in
-      record { packet = r .index; of-form = r .within; at-letter = r .at-place; fails = r .fails; before = λ j a. r .before j (omega arith) }
+  unfolding letters
+  letters-first place h = first-packet (letterRight f s) letters place (rw all-packets h)
 
   values-first : (place : ℕ) → badValue line (getD s 3 0) 5 (slotsOf f) (fieldOf s) ≡ At place → FirstPacket f (valueRight line f s) place
-  unfolding slotsOf
-  values-first place h =
-      let z : countOf f - 0 ≡ countOf f = omega arith in
-      let r = finds-first (countOf f) (valueRight line f s) (letterPlace f) values-from values-on values-stop values-end place (rw z h) in
-      record { packet = r .index; of-form = r .within; at-letter = r .at-place; fails = r .fails; before = λ j a. r .before j (omega arith) }
+  unfolding values
+  values-first place h = first-packet (valueRight line f s) values place (rw all-packets h)
 
-  letters-none : wrongLetter 5 (slotsOf f) (fieldOf s) ≡ Nowhere → (j : ℕ) → j < countOf f → letterRight f s j ≡ true
-  unfolding slotsOf
-  letters-none h j =
-      let z : countOf f - 0 ≡ countOf f = omega arith in
-      finds-none (countOf f) (letterRight f s) (letterPlace f) letters-from letters-on letters-stop letters-end (countOf f) 0 (omega arith) (rw z h) j (omega arith)
+  letters-none : wrongLetter 5 (slotsOf f) (fieldOf s) ≡ Nowhere → EachPacket f (letterRight f s)
+  unfolding letters
+  letters-none h = finds-none _ _ _ letters (rw all-packets h)
 
-  values-none : badValue line (getD s 3 0) 5 (slotsOf f) (fieldOf s) ≡ Nowhere → (j : ℕ) → j < countOf f → valueRight line f s j ≡ true
-  unfolding slotsOf
-  values-none h j =
-      let z : countOf f - 0 ≡ countOf f = omega arith in
-      finds-none (countOf f) (valueRight line f s) (letterPlace f) values-from values-on values-stop values-end (countOf f) 0 (omega arith) (rw z h) j (omega arith)
+  values-none : badValue line (getD s 3 0) 5 (slotsOf f) (fieldOf s) ≡ Nowhere → EachPacket f (valueRight line f s)
+  unfolding values
+  values-none h = finds-none _ _ _ values (rw all-packets h)
 
--- a refusal below 15 is on a line
-on-line : (line : ℕ) (s : List ℕ) (k place : ℕ) → k < 15 → readingOf line s ≡ refused (no k place) → isLine line ≡ true
-on-line line s k place l h =
+-- a refusal below 15 is on a line, and so the first check that finds a fault
+first : (line : ℕ) (s : List ℕ) (k place : ℕ) → k < 15 → readingOf line s ≡ refused (no k place) → FirstCheck line s k place
+first line s k place l h =
     on-test (isLine line)
-    (λ e. e)
+    (λ e. refused-first line s k place e h)
     (λ e.
     let q : Answer.refused (no 15 0) ≡ refused (no k place) = sym (no-line line s e) ∙ h in
     let r : no 15 0 ≡ no k place = cc in
     let z : 15 ≡ k = ap (λ (x : No). x .number) r in
     absurd (omega arith))
-
-first : (line : ℕ) (s : List ℕ) (k place : ℕ) → k < 15 → readingOf line s ≡ refused (no k place) → FirstCheck line s k place
-first line s k place l h = refused-first line s k place (on-line line s k place l h) h
 
 -- the row of a type that is found
 own : (line : ℕ) (s : List ℕ) → rowIn line s .found ≡ true → OwnRow line s (rowIn line s .form)
@@ -212,52 +225,43 @@ own line s h =
       on-line = r .on-line;
     }
 
-pub row-known : RowKnown
-unfolding checks frameChecks fieldChecks
-row-known line s k place a b h =
-    own line s (needs-held (rowIn line s .found) 3 (first line s k place (omega arith) h .none-before 8 (omega arith) (omega arith)))
+-- bytes in which checks 8 to 10 find no fault
+shaped : (line : ℕ) (s : List ℕ) → rowIn line s .found ≡ true → outside 5 (fieldOf s) ≡ Nowhere → misshapen (rowIn line s .form) (fieldOf s) ≡ Nowhere
+    → Shaped line s (rowIn line s .form)
+unfolding misshapen
+shaped line s h o m =
+    let f = rowIn line s .form in
+    let n = no-fault (eqb (length (fieldOf s)) (widthOf f)) 5 (wrongLetter 5 (slotsOf f) (fieldOf s)) m in
+    let right = rw (field-length s) at (n .0) in
+    record { own-row = own line s h; inside = outside-none s o; length-right = right; letters-right = letters-none line s f right (n .1) }
 
 pub nine-first : NineFirst
 unfolding checks frameChecks fieldChecks
-nine-first line s place h =
-    let r = finds-first (length s - 8) (sets s) (λ i. 5 + i) (outside-from s) (outside-on s) (outside-stop s) (outside-end s) place (first line s 9 place (omega arith) h .finds) in
-    record {
-      in-field = (omega (arith, r .at-place), omega (arith, r .at-place, r .within));
-      outside = rw (r .at-place) (r .fails);
-      before = λ i a b.
-          let e : i ≡ 5 + (i - 5) = omega arith in
-          ap (λ (k : ℕ). inSet (getD s k 0)) e ∙ r .before (i - 5) (omega (arith, r .at-place));
-    }
+nine-first line s place h = outside-first s place (first line s 9 place (omega arith) h .finds)
 
 pub ten-first : TenFirst
 unfolding checks frameChecks fieldChecks misshapen
 ten-first line s place h =
-    let m = rw (field-length s) at (first line s 10 place (omega arith) h .finds) in (
-      λ e. let z : At 5 ≡ At place = rw e at m in cc,
-      λ e. letters-first line s (rowIn line s .form) e place (rw e at m),
-    )
+    let c = first line s 10 place (omega arith) h in
+    let m = rw (field-length s) at (c .finds) in
+    record {
+      own-row = own line s (needs-held (rowIn line s .found) 3 (c .none-before 8 (omega arith) (omega arith)));
+      inside = outside-none s (c .none-before 9 (omega arith) (omega arith));
+      another-length = λ e. let z : At 5 ≡ At place = rw e at m in cc;
+      another-letter = λ e. letters-first line s (rowIn line s .form) e place (rw e at m);
+    }
 
 pub eleven-first : ElevenFirst
-unfolding checks frameChecks fieldChecks misshapen
+unfolding checks frameChecks fieldChecks
 eleven-first line s place h =
     let c = first line s 11 place (omega arith) h in
-    let f = rowIn line s .form in
-    let m = no-fault (eqb (length (fieldOf s)) (widthOf f)) 5 (wrongLetter 5 (slotsOf f) (fieldOf s)) (c .none-before 10 (omega arith) (omega arith)) in
-    values-first line s f (rw (field-length s) at (m .0)) place (c .finds)
+    let found = needs-held (rowIn line s .found) 3 (c .none-before 8 (omega arith) (omega arith)) in
+    let p = shaped line s found (c .none-before 9 (omega arith) (omega arith)) (c .none-before 10 (omega arith) (omega arith)) in
+    (p, values-first line s (rowIn line s .form) (p .length-right) place (c .finds))
 
 pub accepted-sound : AcceptedSound
+unfolding checks frameChecks fieldChecks
 accepted-sound line s rec n h =
-    let c = accepted-only line s rec n h .carried in
-    let f = rowIn line s .form in
-    let right : lengthRight f s ≡ true = eq-eqb (length s - 8) (widthOf f) (sym (field-length s) ∙ unfold widthOf in (c .clear .filled)) in
-    record {
-      own-row = own line s (c .found);
-      inside = λ i a.
-          let e : i ≡ 5 + (i - 5) = omega (arith, a .0) in
-          ap (λ (k : ℕ). inSet (getD s k 0)) e
-          ∙ finds-none (length s - 8) (sets s) (λ i. 5 + i) (outside-from s) (outside-on s) (outside-stop s) (outside-end s) (length s - 8) 0 (omega arith) (c .inside) (i - 5) (omega arith)
-          (omega (arith, a .0, a .1));
-      length-right = right;
-      letters-right = letters-none line s f right (c .clear .letters);
-      values-right = values-none line s f right (c .clear .values);
-    }
+    let c = accepted-clean line s rec n h in
+    let p = shaped line s (needs-held (rowIn line s .found) 3 (c 8)) (c 9) (c 10) in
+    (p, values-none line s (rowIn line s .form) (p .length-right) (c 11))

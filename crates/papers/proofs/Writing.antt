@@ -19,7 +19,7 @@ use Rattle.packets.specs.Packets.{leadOf, isDecimal, permits, ruled, permitsNum
 use Rattle.values.specs.Values.{textOf, narrow, numberWidth, permittedFrom, numberFits, permitsValue, permitsValues, rowOf, permitsRecord, lengthOf}
 use Rattle.writing.specs.Writing.{Write, writingOf, telegramOf}
 use Rattle.roundtrips.proofs.Trips.{telegram-length}
-use Rattle.papers.specs.Writing.{RefusedInOrder, Leaves, KeepsBehind}
+use Rattle.papers.specs.Writing.{RefusedInOrder, OldBytes, KeepsBehind}
 
 pub refused-in-order : RefusedInOrder
 unfolding numeralOn leftOf inSet lineOf forms onLine lookIn formOf typeRow slotsIn countOf slotsOf widthIn widthOf leadOf isDecimal permits ruled permitsNumber
@@ -38,7 +38,7 @@ module _ (t out : List ℕ) (n : ℕ) (e : length t ≡ n) (room : n ≤ length 
       ap (λ (k : ℕ). getD (t ++ drop n out) k 0) a ∙ getD-append-add t (drop n out) (i - n) 0 ∙ getD-drop n out (i - n) 0 ∙ ap (λ (k : ℕ). getD out k 0) b
 
 -- what each outcome of a test leaves
-on-outcome : (out : List ℕ) (c : Bool) (x y : Write) → (c ≡ true → Leaves out x) → (c ≡ false → Leaves out y) → Leaves out (cond c x y)
+on-outcome : (out : List ℕ) (c : Bool) (x y : Write) → (c ≡ true → OldBytes out x) → (c ≡ false → OldBytes out y) → OldBytes out (cond c x y)
 on-outcome out true x y f g = f refl
 on-outcome out false x y f g = g refl
 

@@ -20,6 +20,10 @@ use Rattle.reading.specs.Reading.{readingOf}
 abbrev pub InField : List ℕ → ℕ → Type 0
 InField s i = (5 ≤ i) × (i + 3 < length s)
 
+-- each byte of the data field is of the set
+abbrev pub AllInside : List ℕ → Type 0
+AllInside s = (i : ℕ) → InField s i → inSet (getD s i 0) ≡ true
+
 -- 9: a byte of the data field is outside the set, and each byte of the field before it is of the set
 pub record FirstOutside (s : List ℕ) (place : ℕ) : Type 0 where
   pub in-field : InField s place
@@ -28,17 +32,6 @@ pub record FirstOutside (s : List ℕ) (place : ℕ) : Type 0 where
 
 abbrev pub NineFirst : Type 0
 NineFirst = (line : ℕ) (s : List ℕ) (place : ℕ) → readingOf line s ≡ refused (no 9 place) → FirstOutside s place
-
--- a row of the table of forms, of the telegram's type and on the line; on a line no type has two (`NoTwoRows`)
-pub record OwnRow (line : ℕ) (s : List ℕ) (f : Form) : Type 0 where
-  -- what each row has it has
-  pub of-table : (test : Form → Bool) → every test forms ≡ true → test f ≡ true
-  pub of-type : f .kind ≡ getD s 3 0
-  pub on-line : onLine f line ≡ true
-
--- so is the form that 10 and 11 are judged by
-abbrev pub RowKnown : Type 0
-RowKnown = (line : ℕ) (s : List ℕ) (k place : ℕ) → 9 ≤ k → k ≤ 11 → readingOf line s ≡ refused (no k place) → OwnRow line s (rowIn line s .form)
 
 -- how many bytes the first j packets of a form fill: each a letter and then its value
 abbrev pub filledBy : Form → ℕ → ℕ
@@ -61,6 +54,10 @@ letterRight f s j = eqb (getD s (letterPlace f j) 0) (getD (f .letters) j 0)
 abbrev pub valueRight : ℕ → Form → List ℕ → ℕ → Bool
 valueRight line f s j = permitted line (getD s 3 0) (getD (f .letters) j 0) (take (getD (f .lens) j 0) (drop (letterPlace f j + 1) s))
 
+-- each packet of a form passes a test
+abbrev pub EachPacket : Form → (ℕ → Bool) → Type 0
+EachPacket f test = (j : ℕ) → j < countOf f → test j ≡ true
+
 -- a packet of a form fails a test, each packet before it passes, and the place is the packet's letter
 pub record FirstPacket (f : Form) (test : ℕ → Bool) (place : ℕ) : Type 0 where
   pub packet : ℕ
@@ -69,27 +66,38 @@ pub record FirstPacket (f : Form) (test : ℕ → Bool) (place : ℕ) : Type 0 w
   pub fails : test packet ≡ false
   pub before : (j : ℕ) → j < packet → test j ≡ true
 
--- 10: place 5 where the data field has another length; else the first wrong letter
-abbrev pub TenFirst : Type 0
-TenFirst =
-    (line : ℕ) (s : List ℕ) (place : ℕ) → readingOf line s ≡ refused (no 10 place)
-    → (lengthRight (rowIn line s .form) s ≡ false → place ≡ 5)
-    × (lengthRight (rowIn line s .form) s ≡ true → FirstPacket (rowIn line s .form) (letterRight (rowIn line s .form) s) place)
+-- a row of the table of forms, of the telegram's type and on the line; on a line no type has two (`NoTwoRows`)
+pub record OwnRow (line : ℕ) (s : List ℕ) (f : Form) : Type 0 where
+  -- what each row has it has
+  pub of-table : (test : Form → Bool) → every test forms ≡ true → test f ≡ true
+  pub of-type : f .kind ≡ getD s 3 0
+  pub on-line : onLine f line ≡ true
 
--- 11: the letter of the first packet whose value is not permitted
+-- 10: no fault of 9; place 5 where the data field has another length, else the first wrong letter
+pub record FirstMisshapen (line : ℕ) (s : List ℕ) (f : Form) (place : ℕ) : Type 0 where
+  pub own-row : OwnRow line s f
+  pub inside : AllInside s
+  pub another-length : lengthRight f s ≡ false → place ≡ 5
+  pub another-letter : lengthRight f s ≡ true → FirstPacket f (letterRight f s) place
+
+abbrev pub TenFirst : Type 0
+TenFirst = (line : ℕ) (s : List ℕ) (place : ℕ) → readingOf line s ≡ refused (no 10 place) → FirstMisshapen line s (rowIn line s .form) place
+
+-- no fault of 9 and 10
+pub record Shaped (line : ℕ) (s : List ℕ) (f : Form) : Type 0 where
+  pub own-row : OwnRow line s f
+  pub inside : AllInside s
+  pub length-right : lengthRight f s ≡ true
+  pub letters-right : EachPacket f (letterRight f s)
+
+-- 11: no fault of 9 and 10; the letter of the first packet whose value is not permitted
 abbrev pub ElevenFirst : Type 0
 ElevenFirst =
     (line : ℕ) (s : List ℕ) (place : ℕ) → readingOf line s ≡ refused (no 11 place)
-    → FirstPacket (rowIn line s .form) (valueRight line (rowIn line s .form) s) place
+    → Shaped line s (rowIn line s .form) × FirstPacket (rowIn line s .form) (valueRight line (rowIn line s .form) s) place
 
--- a telegram without these faults
-pub record Sound (line : ℕ) (s : List ℕ) (f : Form) : Type 0 where
-  pub own-row : OwnRow line s f
-  pub inside : (i : ℕ) → InField s i → inSet (getD s i 0) ≡ true
-  pub length-right : lengthRight f s ≡ true
-  pub letters-right : (j : ℕ) → j < countOf f → letterRight f s j ≡ true
-  pub values-right : (j : ℕ) → j < countOf f → valueRight line f s j ≡ true
-
--- what is accepted is one
+-- what is accepted has no fault of 9, 10 and 11
 abbrev pub AcceptedSound : Type 0
-AcceptedSound = (line : ℕ) (s : List ℕ) (rec : Record) (n : ℕ) → readingOf line s ≡ accepted rec n → Sound line s (rowIn line s .form)
+AcceptedSound =
+    (line : ℕ) (s : List ℕ) (rec : Record) (n : ℕ) → readingOf line s ≡ accepted rec n
+    → Shaped line s (rowIn line s .form) × EachPacket (rowIn line s .form) (valueRight line (rowIn line s .form) s)

@@ -28,8 +28,8 @@ abbrev pub are : String → String → String → List String → Allowed
 are letters types lines places = record { letters = codes letters; types = codes types; lines = codes lines; places = places }
 
 -- where neither type nor line matters
-abbrev pub always : String → List String → Allowed
-always letters places = are letters "ANrtc5oGFnBKO1" "123" places
+abbrev pub anywhere : String → List String → Allowed
+anywhere letters places = are letters "ANrtc5oGFnBKO1" "123" places
 
 abbrev pub digits : String
 digits = "0123456789"
@@ -42,23 +42,23 @@ characterSet = "%()-:+ 0123456789ABCDEFGHIJKLMNOPQRSTUVWXYZabcdefghijklmnopqrstu
 abbrev pub paper : List Allowed
 paper =
     -- L, %, H, E three digits
-    always "L%HE" (digits ∷ digits ∷ digits ∷ []) ∷
+    anywhere "L%HE" (digits ∷ digits ∷ digits ∷ []) ∷
     -- S, D, C two digits
-    always "SDC" (digits ∷ digits ∷ []) ∷
+    anywhere "SDC" (digits ∷ digits ∷ []) ∷
     -- T six digits
-    always "T" (digits ∷ digits ∷ digits ∷ digits ∷ digits ∷ digits ∷ []) ∷
+    anywhere "T" (digits ∷ digits ∷ digits ∷ digits ∷ digits ∷ digits ∷ []) ∷
     -- F is the letter C and two digits
-    always "F" ("C" ∷ digits ∷ digits ∷ []) ∷
+    anywhere "F" ("C" ∷ digits ∷ digits ∷ []) ∷
     -- P is a digit 0 to 7 and three digits
-    always "P" ("01234567" ∷ digits ∷ digits ∷ digits ∷ []) ∷
+    anywhere "P" ("01234567" ∷ digits ∷ digits ∷ digits ∷ []) ∷
     -- R is 88 or 00: two digits, and which they are says `DirectionExact`
-    always "R" (digits ∷ digits ∷ []) ∷
+    anywhere "R" (digits ∷ digits ∷ []) ∷
     -- m is S or T
-    always "m" ("ST" ∷ []) ∷
+    anywhere "m" ("ST" ∷ []) ∷
     -- U is + or -
-    always "U" ("+-" ∷ []) ∷
+    anywhere "U" ("+-" ∷ []) ∷
     -- N is 1, 2 or A
-    always "N" ("12A" ∷ []) ∷
+    anywhere "N" ("12A" ∷ []) ∷
     -- M is a colon and one of A B C D, in telegram 1 also F
     are "M" "KO" "3" (":" ∷ "ABCD" ∷ []) ∷
     are "M" "1" "2" (":" ∷ "ABCDF" ∷ []) ∷
@@ -66,11 +66,11 @@ paper =
     are "V" "KO" "3" (":" ∷ "ABCD " ∷ "ABCD " ∷ []) ∷
     are "V" "1" "2" (":" ∷ "ABCDF " ∷ "ABCDF " ∷ []) ∷
     -- W and X are each F, 1 or 6
-    always "WX" ("F16" ∷ []) ∷
+    anywhere "WX" ("F16" ∷ []) ∷
     -- Y is one of 0 to 9 and A to V
-    always "Y" ("0123456789ABCDEFGHIJKLMNOPQRSTUV" ∷ []) ∷
+    anywhere "Y" ("0123456789ABCDEFGHIJKLMNOPQRSTUV" ∷ []) ∷
     -- Z is 0 to 7
-    always "Z" ("01234567" ∷ []) ∷
+    anywhere "Z" ("01234567" ∷ []) ∷
     -- B in r names the wanted type: B on line 1, 5 on line 2, K on line 3
     are "B" "r" "1" ("B" ∷ []) ∷
     are "B" "r" "2" ("5" ∷ []) ∷

@@ -58,10 +58,10 @@ RefusedInOrder =
     ≡ map (λ (a : Attempt). (refused (no (a .refusal) 0), a .out)) attempts
 
 -- the bytes that a call leaves: a refused one all of them, one that wrote n bytes each from index n on
-abbrev pub Leaves : List ℕ → Write → Type 0
-Leaves out (written n, left) = (length left ≡ length out) × ((i : ℕ) → n ≤ i → getD left i 0 ≡ getD out i 0)
-Leaves out (refused x, left) = left ≡ out
+abbrev pub OldBytes : List ℕ → Write → Type 0
+OldBytes out (written n, left) = (length left ≡ length out) × ((i : ℕ) → n ≤ i → getD left i 0 ≡ getD out i 0)
+OldBytes out (refused x, left) = left ≡ out
 
 -- what lies behind the telegram keeps its old bytes, whatever is written on whatever line
 abbrev pub KeepsBehind : Type 0
-KeepsBehind = (line : ℕ) (rec : Record) (number : ℕ) (out : List ℕ) → Leaves out (writingOf line rec number out)
+KeepsBehind = (line : ℕ) (rec : Record) (number : ℕ) (out : List ℕ) → OldBytes out (writingOf line rec number out)
