@@ -4,3 +4,7 @@ pub mod Lines
 pub mod Set
 pub mod Order
 pub mod Receiver
+pub mod Firsts
+pub mod Permitted
+pub mod EachForm
+pub mod Writing
