@@ -21,7 +21,7 @@ use Rattle.reading.specs.Reading.{recordIn, checks, readingOf}
 use Rattle.turns.specs.Turns.{turnOf}
 use Rattle.cutting.specs.Search.{cutFrom, spanOf}
 use Rattle.text.specs.Numbers.{countOn, digitCount, decimalText}
-use Rattle.text.specs.Items.{refusalText}
+use Rattle.words.specs.Items.{refusalText}
 use Rattle.listings.specs.Lines.{lineText}
 use Rattle.captures.specs.Sample.{PaperListing, NoInput, OtherByte, DigitAlone}
 use Rattle.captures.specs.Pieces.{spansOn, spansOf, lineAt, linesIn, linesOf, lineNamed, listingOf}

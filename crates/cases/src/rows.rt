@@ -8,7 +8,7 @@ use compared::tally::Tally;
 use compared::tally::put_tally;
 use libc::STDIN_FILENO;
 use libc::STDOUT_FILENO;
-use text::fields::field;
+use words::fields::field;
 
 // Room for a row's name and expectation, which have under 65,536 bytes, as that is all that is read, and 256 for what came.
 pub(crate) fn output() -> [u8; 65792]

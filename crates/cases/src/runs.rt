@@ -10,17 +10,17 @@ use reading::reading::read;
 use records::records::Record;
 use records::records::record_of;
 use records::records::type_of;
-use text::fields::field;
 use text::frames::put_meant;
 use text::frames::put_shown;
 use text::hex::put_hex;
-use text::items::put_refusal;
-use text::items::put_values;
-use text::items::word_values;
 use text::numbers::number;
 use text::numbers::put_number;
 use text::putting::put_byte;
 use text::putting::put_text;
+use words::fields::field;
+use words::items::put_refusal;
+use words::items::put_values;
+use words::items::word_values;
 use writing::writing::write;
 
 pub(crate) fn kind(row: &[u8]) -> u8 {

@@ -4,7 +4,7 @@ use mathlib.Core.List.{List, [], _∷_, _++_}
 use Prim.Native.Nat.{ℕ}
 use Rattle.laws.specs.Text.{codes}
 use Rattle.characters.specs.Marks.{lf}
-use Rattle.text.specs.Fields.{sameText}
+use Rattle.words.specs.Fields.{sameText}
 
 -- the end of a row, with a mark where what came is not what was expected
 abbrev pub endText : Bool → List ℕ

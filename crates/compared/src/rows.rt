@@ -3,8 +3,8 @@ ghost use mathlib.Core.Path.{_≡_};
 ghost use mathlib.Core.List.{_++_};
 ghost use Rattle.text.specs.Putting.{puts};
 ghost use Rattle.compared.specs.Rows.{endText, rowText};
-use text::fields::same;
 use text::putting::put_text;
+use words::fields::same;
 
 // A text behind another.
 fn put_behind(out: &mut [u8], at: usize, word: &[u8], text: &[u8]) -> usize

@@ -1,12 +1,12 @@
 // How many rows there are, and how many of them differ.
 ghost use mathlib.Core.Path.{_≡_};
 ghost use Rattle.text.specs.Putting.{puts};
-ghost use Rattle.text.specs.Fields.{sameText};
+ghost use Rattle.words.specs.Fields.{sameText};
 ghost use Rattle.compared.specs.Tally.{noRows, countedOf, tallyText};
 use std::num::wrapping_add_u64;
-use text::fields::same;
 use text::numbers::put_number;
 use text::putting::put_text;
+use words::fields::same;
 
 pub struct Tally {
     pub rows: u64,

@@ -11,7 +11,7 @@ use Rattle.reading.specs.Answers.{Answer, accepted, refused, written}
 use Rattle.reading.specs.Frame.{lf}
 use Rattle.writing.specs.Writing.{Write}
 use Rattle.text.specs.Numbers.{decimalText}
-use Rattle.text.specs.Items.{refusalText}
+use Rattle.words.specs.Items.{refusalText}
 
 -- `ok`, type, number, or `no`, refusal, place; the type is printed as its byte
 abbrev pub answerText : Answer → List ℕ

@@ -11,10 +11,10 @@ use records::records::type_of;
 use records::refusals::Refusal;
 use records::refusals::number_of;
 use records::refusals::place_of;
-use text::items::put_no;
 use text::numbers::put_number;
 use text::putting::put_byte;
 use text::putting::put_text;
+use words::items::put_no;
 
 // Room for any line: four numbers of at most 20 digits, and 7 other bytes.
 pub const LINE_ROOM: usize = 87;

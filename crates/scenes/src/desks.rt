@@ -12,10 +12,10 @@ use desk::state::Waiting;
 use desk::state::Wanted;
 use tellings::desks::put_heard;
 use tellings::desks::put_outcome;
-use text::fields::word_value;
-use text::items::put_record;
 use text::putting::put_byte;
 use text::putting::put_text;
+use words::fields::word_value;
+use words::items::put_record;
 
 // The state: line, last number taken, queued records.
 fn end(out: &mut [u8], at: usize, good: bool, last: u8, queued: usize) {

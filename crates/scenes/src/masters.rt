@@ -9,9 +9,9 @@ use master::state::Master;
 use master::state::Step;
 use records::records::Record;
 use tellings::masters::put_answer;
-use text::fields::word_value;
-use text::items::put_record;
 use text::putting::put_text;
+use words::fields::word_value;
+use words::items::put_record;
 
 // The state: line, number to send, sendings made.
 fn end(out: &mut [u8], at: usize, good: bool, number: u8, count: u8) {

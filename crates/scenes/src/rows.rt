@@ -1,13 +1,13 @@
 // The words of a row, and what they mean.
 ghost use Prim.Native.Nat.{_≤_};
 use records::records::Record;
-use text::fields::from_field;
-use text::fields::same;
-use text::fields::word;
-use text::fields::word_place;
-use text::fields::word_value;
 use text::frames::put_meant;
-use text::items::record_said;
+use words::fields::from_field;
+use words::fields::same;
+use words::fields::word;
+use words::fields::word_place;
+use words::fields::word_value;
+use words::items::record_said;
 
 // A word as a small number.
 pub(crate) fn small(s: &[u8], at: usize) -> u8 {

@@ -9,10 +9,10 @@ use desk::state::Desk;
 use libc::STDIN_FILENO;
 use master::state::Master;
 use std::num::wrapping_add_usize;
-use text::fields::word;
-use text::fields::word_place;
-use text::fields::word_value;
 use text::numbers::put_number;
+use words::fields::word;
+use words::fields::word_place;
+use words::fields::word_value;
 
 // Where a piece of the input is read, how many bytes it has, how many a row has so far, whether it is whole, and whether more may come.
 struct Input {

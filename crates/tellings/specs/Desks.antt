@@ -8,7 +8,7 @@ use Rattle.records.specs.Refusals.{No, refusalOf}
 use Rattle.replying.specs.declared.replying.Source as source
 use Rattle.desk.specs.declared.answers.Outcome as outcome
 use Rattle.desk.specs.declared.answers.Heard as heard
-use Rattle.text.specs.Items.{refusalText, recordText}
+use Rattle.words.specs.Items.{refusalText, recordText}
 use Rattle.tellings.specs.Parts.{bytesText}
 
 -- a call that hears nothing is done, or notes the line lost, or refuses

@@ -9,7 +9,7 @@ use Rattle.master.specs.declared.answers.Sending as sending
 use Rattle.master.specs.declared.answers.Cause as cause
 use Rattle.master.specs.declared.answers.Reason as reason
 use Rattle.master.specs.declared.answers.Answer as answer
-use Rattle.text.specs.Items.{refusalText, recordText}
+use Rattle.words.specs.Items.{refusalText, recordText}
 use Rattle.tellings.specs.Parts.{bytesText, countSaid}
 
 -- which sending it is, its count and its bytes

@@ -9,10 +9,10 @@ use desk::answers::Outcome;
 use records::records::Record;
 use records::refusals::Refusal;
 use replying::replying::Source;
-use text::items::put_record;
-use text::items::put_refusal;
 use text::putting::put_byte;
 use text::putting::put_text;
+use words::items::put_record;
+use words::items::put_refusal;
 
 // A call that hears nothing.
 pub fn put_outcome(out: &mut [u8], at: usize, answer: Outcome) -> usize

@@ -11,9 +11,9 @@ use master::answers::Reason;
 use master::answers::Sending;
 use reading::answers::Reading;
 use records::records::Record;
-use text::items::put_record;
-use text::items::put_refusal;
 use text::putting::put_text;
+use words::items::put_record;
+use words::items::put_refusal;
 
 fn put_sending(out: &mut [u8], at: usize, s: Sending) -> usize
     ensures { λ r. ⌜ (r, now (out .exit)) ≡ puts (sendingText s) at (now (out .entry)) ⌝ }

@@ -1,7 +1,5 @@
 // Text of rows and listings, put into a lent output or parsed from a lent slice.
-pub mod fields;
 pub mod frames;
 pub mod hex;
-pub mod items;
 pub mod numbers;
 pub mod putting;

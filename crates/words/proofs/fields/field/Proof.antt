@@ -1,0 +1,31 @@
+-- `field` is the part between two places. Assumes nothing.
+use mathlib.Core.Path.{ap, _∙_}
+use Prim.Native.Nat.{ℕ}
+use lib.ListN.{take, drop}
+use Rattle.words.proofs.Rows.{between}
+use borrow.Author.Needs.{needs}
+use Rattle.words.proofs.fields.field.Statement.{statement}
+use Rattle.words.proofs.fields.field.Tie as tie
+
+start-of-requires : tie.Need-start-of-requires
+start-of-requires c κs = search needs
+
+end-from-requires : tie.Need-end-from-requires
+end-from-requires c κs = search needs
+
+less-requires : tie.Need-less-requires
+less-requires c κs = search needs
+
+part-requires : tie.Need-part-requires
+part-requires c κs = search needs
+
+returns : tie.Need-returns
+returns c =
+    let a = c .before .before .before .before .before .args in
+    let s = c .before .before .before .start-of in
+    c .part .ensures ∙ ap (λ (k : ℕ). take k (drop (s .result) (a .s .now))) (c .before .less .ensures)
+    ∙ between (a .s .now) (a .separator) (a .number) (s .result) _ (s .ensures) (c .before .before .end-from .ensures)
+
+pub field-spec : {M : Type 1} → statement M
+field-spec =
+    tie.close (tie.spec start-of-requires end-from-requires less-requires part-requires returns)

@@ -1,0 +1,18 @@
+-- `from_field` is the part from a place on. Assumes nothing.
+use mathlib.Core.Path.{_∙_}
+use Rattle.words.proofs.Rows.{whole-rest}
+use borrow.Author.Needs.{needs}
+use Rattle.words.proofs.fields.from_field.Statement.{statement}
+use Rattle.words.proofs.fields.from_field.Tie as tie
+
+start-of-requires : tie.Need-start-of-requires
+start-of-requires c κs = search needs
+
+part-requires : tie.Need-part-requires
+part-requires c κs = search needs
+
+returns : tie.Need-returns
+returns c = c .part .ensures ∙ whole-rest (c .before .before .before .args .s .now) _ (c .before .start-of .result) (c .before .start-of .ensures)
+
+pub from-field-spec : {M : Type 1} → statement M
+from-field-spec = tie.close (tie.spec start-of-requires part-requires returns)
