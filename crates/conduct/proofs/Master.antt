@@ -5,4 +5,5 @@ pub mod Counts
 pub mod Same
 pub mod Ended
 pub mod Timed
+pub mod Hears
 pub mod Apart

@@ -2,13 +2,12 @@
 use mathlib.Core.Path.{_≡_, refl, sym}
 use mathlib.Core.Bool.{true, false}
 use mathlib.Core.List.{List, [], _∷_}
-use Prim.Native.Nat.{ℕ, _+_, _≤_}
+use Prim.Native.Nat.{ℕ, _≤_}
 use native.Mathlib.Omega.{arith}
 use borrow.Author.Tests.{eqb-false}
 use Rattle.laws.proofs.Truths.{clash}
-use Rattle.forms.specs.Lines.{isLine}
 use Rattle.master.specs.declared.state.Master.{Master}
-use Rattle.master.specs.Answers.{Which, Told, refused, nothing, sent, answered, otherKind, givenUp, ignored}
+use Rattle.master.specs.Answers.{Which, Told}
 use Rattle.master.specs.State.{isFree, inRanges, started}
 use Rattle.master.specs.Sending.{Behind, sendingOf}
 use Rattle.master.proofs.Ranges.{counted}

@@ -1,14 +1,12 @@
 -- How a telegram ends: given up, or by an answer of another kind (01 'Link rules', 'Readings that look right'). Assumes nothing.
 use mathlib.Core.Path.{_≡_, refl, ap}
-use mathlib.Core.Bool.{Bool, true}
+use mathlib.Core.Bool.{true}
 use Prim.Native.Nat.{ℕ}
 use native.Mathlib.Omega.{arith}
 use Rattle.clock.specs.Counters.{changedOf}
-use Rattle.master.specs.declared.state.Master.{Master}
 use Rattle.master.specs.Answers.{Told, otherKind, givenUp}
-use Rattle.master.specs.State.{isFree, inRanges}
 use Rattle.master.specs.Sending.{Behind, sendingOf}
-use Rattle.conduct.specs.Master.Calls.{Call, after, lineAfter}
+use Rattle.conduct.specs.Master.Calls.{after, lineAfter}
 use Rattle.conduct.specs.Master.Ended.{Freed, AfterGivingUp, AfterOtherKind}
 use Rattle.conduct.proofs.Master.Calls.{Quiet, barred, idle, unheard, Ends, permitted, strange, Does, stays, begins, repeats, ends, givesUp, does}
 

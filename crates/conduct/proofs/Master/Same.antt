@@ -6,15 +6,14 @@ use Prim.Native.Nat.{ℕ, _+_}
 use lib.ListN.{length, take, drop}
 use lib.Seq.{take-at, drop-at}
 use Rattle.laws.proofs.Truths.{clash}
-use Rattle.forms.specs.Lines.{isLine}
 use Rattle.records.specs.declared.records.Record.{Record}
 use Rattle.writing.specs.Writing.{telegramOf, sentOf}
 use Rattle.master.specs.declared.state.Master.{Master}
-use Rattle.master.specs.Answers.{Which, again, Told, refused, nothing, sent, answered, otherKind, givenUp, ignored}
+use Rattle.master.specs.Answers.{Which, again, Told}
 use Rattle.master.specs.State.{isFree, inRanges, withLine, started}
 use Rattle.master.specs.Sending.{Behind, sendingOf}
-use Rattle.conduct.specs.Master.Calls.{Call, outputOf, after, First}
-use Rattle.conduct.specs.Master.Same.{Right, first, same, Leaves, lastSent, Sent, SameBytes}
+use Rattle.conduct.specs.Master.Calls.{Call, outputOf, after}
+use Rattle.conduct.specs.Master.Same.{first, same, Leaves, lastSent, Sent, SameBytes}
 use Rattle.conduct.proofs.Master.Calls.{Quiet, barred, idle, unheard, Ends, permitted, strange, Does, stays, begins, repeats, ends, givesUp, does}
 use Rattle.conduct.proofs.Master.Kept.{keeps, start-ranged}
 
