@@ -6,4 +6,6 @@ pub mod Same
 pub mod Ended
 pub mod Timed
 pub mod Hears
+pub mod Refused
+pub mod Paper
 pub mod Apart

@@ -1,12 +1,11 @@
 -- T0 and T2 at their limits, in every state in its ranges and at every reading of the clock (01 'Link rules', 'Bench cases'). Assumes nothing.
 use mathlib.Core.Path.{_≡_}
 use mathlib.Core.Bool.{true, false}
-use mathlib.Core.List.{List, [], _∷_, _++_}
+use mathlib.Core.List.{List}
 use Prim.Native.Nat.{ℕ, _+_, _^_, _≤_, _<_}
 use Prim.Native.Char.{code}
 use lib.ListN.{length, replicate}
-use Rattle.laws.specs.Text.{codes}
-use Rattle.characters.specs.Marks.{lf, cr, longest}
+use Rattle.characters.specs.Marks.{longest}
 use Rattle.records.specs.declared.records.Record.the-variants.{Approved, Train}
 use Rattle.judging.specs.Rules.{pollOf}
 use Rattle.master.specs.declared.state.Master.{Master}
@@ -15,6 +14,7 @@ use Rattle.master.specs.Sending.{Behind, sendingOf, offerOf, tickOf}
 use Rattle.master.specs.Hearing.{hearOf}
 use Rattle.master.specs.Answers as t
 use Rattle.conduct.specs.Times.{clockAfter}
+use Rattle.conduct.specs.Master.Paper.{telegram}
 
 -- a free master, in its ranges
 pub record Free (m : Master) : Type 0 where
@@ -74,7 +74,7 @@ waiting = offerOf (started 3 0) 100 (Train 123456) room .0
 
 -- A with number 0 and key A, case a
 abbrev pub approved : List ℕ
-approved = lf ∷ (codes "08A0AAA5" ++ (cr ∷ []))
+approved = telegram "08A0AAA5"
 
 abbrev pub HearsAt1999 : Type 0
 HearsAt1999 = hearOf waiting 2099 approved room .1 .0 ≡ t.answered (Approved (code "A")) 1
