@@ -6,6 +6,7 @@ pub mod Stored
 pub mod Repeats
 pub mod Faults
 pub mod Timed
+pub mod Handled
 pub mod Polls
 pub mod Once
 pub mod Refused

@@ -29,12 +29,12 @@ use Rattle.master.specs.Answers as t
 use Rattle.master.proofs.Ranges.{passes}
 use Rattle.master.proofs.Sends.{gave-up, sent-again}
 use Rattle.master.proofs.Hears.{hear-heard}
-use Rattle.conduct.specs.Master.Hears.{Hears, HearsFailure, HearsThirdFailure, HearsAnswer, HearsOtherKind, HearsContents, IgnoresBad, IgnoresOtherNumber}
+use Rattle.conduct.specs.Master.Hears.{HeardInTime, HearsFailure, HearsThirdFailure, HearsAnswer, HearsOtherKind, HearsContents, IgnoresBad, IgnoresOtherNumber}
 use Rattle.conduct.proofs.Times.{still-runs}
 
 module _ (m : Master) (frame out : List ℕ) where
   -- a frame that is judged so is settled so
-  settles : (v : Judged) → v ≡ judged m frame → Hears m frame out (λ at. settledOf m at v out)
+  settles : (v : Judged) → v ≡ judged m frame → HeardInTime m frame out (λ at. settledOf m at v out)
   settles v e b room ms l =
       sym (hear-heard m _ frame out (passes m (length out) (b .ranged) room) (eqb-false (m .count) 0 (b .busy)) (still-runs (m .t2) ms t2Limit (b .start) (omega arith) l)
       (typeOf (m .rec)) refl v e)

@@ -24,48 +24,48 @@ use Rattle.conduct.specs.Times.{clockAfter}
 use Rattle.conduct.specs.Master.Timed.{Busy}
 
 -- so long after the newest sending, a hearing of this frame leaves what is said of its time
-abbrev pub Hears : Master → List ℕ → List ℕ → (ℕ → Behind) → Type 0
-Hears m frame out leaves =
+abbrev pub HeardInTime : Master → List ℕ → List ℕ → (ℕ → Behind) → Type 0
+HeardInTime m frame out leaves =
     Busy m → longest ≤ length out → (ms : ℕ) → ms < 2000 → hearOf m (clockAfter (m .t2) ms) frame out ≡ leaves (clockAfter (m .t2) ms)
 
 -- N with 1 or 2 and the number that was sent: sent again at once with the count one more,
 abbrev pub HearsFailure : Type 0
 HearsFailure =
     (m : Master) (frame out : List ℕ) (rec : Record) → readingOf (m .line) frame ≡ accepted rec (m .number .0) → isFailure rec ≡ true → m .count < 3
-    → Hears m frame out (λ at. sendingOf t.again (withLine m true) (m .rec) (m .count + 1) at out)
+    → HeardInTime m frame out (λ at. sendingOf t.again (withLine m true) (m .rec) (m .count + 1) at out)
 
 -- or at count 3 given up, and the line stays good
 abbrev pub HearsThirdFailure : Type 0
 HearsThirdFailure =
     (m : Master) (frame out : List ℕ) (rec : Record) → readingOf (m .line) frame ≡ accepted rec (m .number .0) → isFailure rec ≡ true → m .count ≡ 3
-    → Hears m frame out (λ at. (givenUpState (withLine m true), (t.givenUp t.rejected 3, out)))
+    → HeardInTime m frame out (λ at. (givenUpState (withLine m true), (t.givenUp t.rejected 3, out)))
 
 -- any other record with that number ends the telegram as answered: a permitted answer with its record,
 abbrev pub HearsAnswer : Type 0
 HearsAnswer =
     (m : Master) (frame out : List ℕ) (rec : Record) → readingOf (m .line) frame ≡ accepted rec (m .number .0) → isFailure rec ≡ false
     → permittedAnswer (m .line) (typeOf (m .rec)) (typeOf rec) ≡ true
-    → Hears m frame out (λ at. (answeredState (withLine m true), (t.answered rec (m .count), out)))
+    → HeardInTime m frame out (λ at. (answeredState (withLine m true), (t.answered rec (m .count), out)))
 
 -- or an answer of another kind,
 abbrev pub HearsOtherKind : Type 0
 HearsOtherKind =
     (m : Master) (frame out : List ℕ) (rec : Record) → readingOf (m .line) frame ≡ accepted rec (m .number .0) → isFailure rec ≡ false
     → permittedAnswer (m .line) (typeOf (m .rec)) (typeOf rec) ≡ false
-    → Hears m frame out (λ at. (answeredState (withLine m true), (t.otherKind (accepted rec (m .number .0)) (m .count), out)))
+    → HeardInTime m frame out (λ at. (answeredState (withLine m true), (t.otherKind (accepted rec (m .number .0)) (m .count), out)))
 
 -- and so are contents refused 8 to 11
 abbrev pub HearsContents : Type 0
 HearsContents =
     (m : Master) (frame out : List ℕ) (x : No) → readingOf (m .line) frame ≡ w.refused x → 8 ≤ x .number → x .number ≤ 11 → numberIn (getD frame 4 0) ≡ m .number .0
-    → Hears m frame out (λ at. (answeredState (withLine m true), (t.otherKind (w.refused x) (m .count), out)))
+    → HeardInTime m frame out (λ at. (answeredState (withLine m true), (t.otherKind (w.refused x) (m .count), out)))
 
 -- a frame refused 1 to 7 is ignored, and so is a good one whose number is another
 abbrev pub IgnoresBad : Type 0
 IgnoresBad =
-    (m : Master) (frame out : List ℕ) (x : No) → firstFault 1 (frameChecks frame) ≡ fails x → Hears m frame out (λ at. (m, (t.ignored (t.Why.refused x), out)))
+    (m : Master) (frame out : List ℕ) (x : No) → firstFault 1 (frameChecks frame) ≡ fails x → HeardInTime m frame out (λ at. (m, (t.ignored (t.Why.refused x), out)))
 
 abbrev pub IgnoresOtherNumber : Type 0
 IgnoresOtherNumber =
     (m : Master) (frame out : List ℕ) → firstFault 1 (frameChecks frame) ≡ good → ¬ (m .number .0 ≡ numberIn (getD frame 4 0))
-    → Hears m frame out (λ at. (m, (t.ignored t.otherNumber, out)))
+    → HeardInTime m frame out (λ at. (m, (t.ignored t.otherNumber, out)))

@@ -63,10 +63,10 @@ abbrev pub EachAnswer : Type 0
 EachAnswer = All PermitsSo paperAnswers
 
 -- a type has a row on a line
-abbrev pub hasRow : List AnswerRow → ℕ → ℕ → Bool
-hasRow [] line sent = false
-hasRow (row ∷ rows) line sent = either (both (eqb line (row .line)) (oneOf (row .sent) sent)) (hasRow rows line sent)
+abbrev pub isListed : List AnswerRow → ℕ → ℕ → Bool
+isListed [] line sent = false
+isListed (row ∷ rows) line sent = either (both (eqb line (row .line)) (oneOf (row .sent) sent)) (isListed rows line sent)
 
 -- each type of the table of forms has one on each line where the master sends it
 abbrev pub EachTypeListed : Type 0
-EachTypeListed = every (λ (line : ℕ). every (λ (f : Form). cond (byMaster line (f .kind)) (hasRow paperAnswers line (f .kind)) true) forms) lineNumbers ≡ true
+EachTypeListed = every (λ (line : ℕ). every (λ (f : Form). cond (byMaster line (f .kind)) (isListed paperAnswers line (f .kind)) true) forms) lineNumbers ≡ true
