@@ -15,7 +15,6 @@ use Rattle.records.specs.Records.{typeOf}
 use Rattle.records.specs.declared.records.Record.{Record}
 use Rattle.records.specs.declared.records.Record.the-variants.{Approved}
 use Rattle.reading.specs.Answers.{accepted}
-use Rattle.reading.specs.Answers as w
 use Rattle.reading.specs.Reading.{readingOf}
 use Rattle.writing.specs.Writing.{sentOf}
 use Rattle.characters.specs.Marks.{longest}
@@ -31,7 +30,7 @@ use Rattle.desk.specs.Hearing.{Hearing, faultedOf, repeatedOf, handledOf, appli
 use Rattle.replying.specs.declared.waiting.Waiting.{Waiting}
 use Rattle.desk.specs.declared.state.Desk.{Desk}
 use Rattle.conduct.specs.Desk.Calls.{noted, Fine}
-use Rattle.conduct.specs.Desk.Polls.{waiting, Answers, Same, PollsByT, TPolls, PollOldest, PollEmpty, OthersLeave}
+use Rattle.conduct.specs.Desk.Polls.{waiting, Answers, Same, PollsByT, TPolls, PollOldest, PollEmpty, KeyByLine, OthersLeave}
 use Rattle.conduct.proofs.Desk.Waiting.{oldest-taken, oldest-first}
 use Rattle.desk.proofs.Sendings.{hear-room, hear-applied}
 use Rattle.conduct.proofs.Desk.Steps.{never}
@@ -64,14 +63,9 @@ module _ (d : Desk) (f : Fine d) (at n : ℕ) (out : List ℕ) where
   answers-key true q = rw (eq-eqb (d .queued) 0 q) (none-wait q, none-wait q, (refl, refl))
   answers-key false q = rw (eq-eqb (d .queued) 0 q) (none-wait q, none-wait q, (refl, refl))
 
--- the key position where A carries it, A else
-pub key-carried : (line position : ℕ) → lineOf line .keyed ≡ true → keyOn line position ≡ position
-unfolding keyOn
-key-carried line position h = rw h
-
-pub key-elsewhere : (line position : ℕ) → lineOf line .keyed ≡ false → keyOn line position ≡ code "A"
-unfolding keyOn
-key-elsewhere line position h = rw h
+pub key-by-line : KeyByLine
+unfolding lineOf keyOn
+key-by-line position = refl
 
 -- the first rule leaves the queue as it was
 noted-queue : (d : Desk) (b : Bool) → Same d (notedOf d b)
