@@ -27,7 +27,7 @@ use Rattle.master.specs.Sending.{Behind, t0Limit, t2Limit, unlessRefused, sendi
 use Rattle.master.specs.Hearing.{settledOf, judged, hearOf}
 use Rattle.master.proofs.Ranges.{passed, lined, sendable-both, poll-sendable}
 use Rattle.master.proofs.Sends.{offer-passed}
-use Rattle.conduct.specs.Master.Calls.{Call, offers, ticks, hears, outputOf, after, First, offered, polled, lineAfter}
+use Rattle.conduct.specs.Master.Calls.{Call, offers, ticks, hears, outputOf, after, FirstSending, offered, polled, lineAfter}
 use Rattle.reading.specs.Answers as w
 use Rattle.master.specs.Answers as t
 
@@ -85,7 +85,7 @@ module _ (line number sent : ℕ) (frame : List ℕ) where
 -- what a call can do to a state in its ranges
 pub data Does (m : Master) (call : Call) : Behind → Type 0 where
   stays : (told : t.Told) → Quiet told → Does m call (m, (told, outputOf call))
-  begins : (which : Which) (rec : Record) (at : ℕ) → First m call which rec → isFree m ≡ true → sendable (m .line) rec ≡ true → longest ≤ length (outputOf call)
+  begins : (which : Which) (rec : Record) (at : ℕ) → FirstSending m call which rec → isFree m ≡ true → sendable (m .line) rec ≡ true → longest ≤ length (outputOf call)
       → Does m call (sendingOf which m rec 1 at (outputOf call))
   repeats : (g : Bool) (at : ℕ) → isFree m ≡ false → ¬ (m .count ≡ 3) → longest ≤ length (outputOf call)
       → Does m call (sendingOf again (withLine m g) (m .rec) (m .count + 1) at (outputOf call))

@@ -11,7 +11,7 @@ use Rattle.master.specs.Answers.{Which, Told}
 use Rattle.master.specs.State.{isFree, inRanges, started}
 use Rattle.master.specs.Sending.{Behind, sendingOf}
 use Rattle.master.proofs.Ranges.{counted}
-use Rattle.conduct.specs.Master.Calls.{Call, after, First, offered, polled}
+use Rattle.conduct.specs.Master.Calls.{Call, after, FirstSending, offered, polled}
 use Rattle.conduct.specs.Master.Counts.{oneMore, tally, Reports, Counted, CountMade}
 use Rattle.conduct.proofs.Master.Calls.{Quiet, barred, idle, unheard, Ends, permitted, strange, Does, stays, begins, repeats, ends, givesUp, does}
 use Rattle.conduct.proofs.Master.Kept.{keeps, start-ranged}
@@ -33,7 +33,7 @@ module _ (m : Master) (h : inRanges m ≡ true) (n : ℕ) (k : Holds n m) where
   over told f permitted = (k f, within f)
   over told f strange = (k f, within f)
 
-  begun : (call : Call) (which : Which) {rec : _} → First m call which rec → oneMore n which ≡ 1
+  begun : (call : Call) (which : Which) {rec : _} → FirstSending m call which rec → oneMore n which ≡ 1
   begun call which offered = refl
   begun call which polled = refl
 

@@ -33,9 +33,9 @@ run m [] = m
 run m (call ∷ calls) = run (after m call .0) calls
 
 -- the first sending of a telegram: of the offered record, or of the poll
-pub data First (m : Master) : Call → Which → Record → Type 0 where
-  offered : {at : ℕ} {rec : Record} {out : List ℕ} → First m (offers at rec out) t.offered rec
-  polled : {at : ℕ} {out : List ℕ} → First m (ticks at out) poll (pollOf (m .line))
+pub data FirstSending (m : Master) : Call → Which → Record → Type 0 where
+  offered : {at : ℕ} {rec : Record} {out : List ℕ} → FirstSending m (offers at rec out) t.offered rec
+  polled : {at : ℕ} {out : List ℕ} → FirstSending m (ticks at out) poll (pollOf (m .line))
 
 -- giving up by silence notes the line lost; by N it stays good
 abbrev pub lineAfter : Ground → Bool

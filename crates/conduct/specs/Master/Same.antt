@@ -12,12 +12,12 @@ use Rattle.master.specs.declared.state.Master.{Master}
 use Rattle.master.specs.Answers.{Which, again, Told, nothing, sent, answered, otherKind, givenUp, ignored}
 use Rattle.master.specs.Answers as t
 use Rattle.master.specs.State.{started}
-use Rattle.conduct.specs.Master.Calls.{Call, outputOf, after, First}
+use Rattle.conduct.specs.Master.Calls.{Call, outputOf, after, FirstSending}
 
 -- the bytes of a sending, where held are those of the sending before it
 pub data Right (held : List ℕ) (m : Master) (call : Call) (which : Which) (bytes : List ℕ) : Type 0 where
   -- a first sending: the telegram of the offered record or of the poll, with the number to send
-  first : {rec : Record} → First m call which rec → bytes ≡ telegramOf (m .line) rec (m .number .0) → Right held m call which bytes
+  first : {rec : Record} → FirstSending m call which rec → bytes ≡ telegramOf (m .line) rec (m .number .0) → Right held m call which bytes
   -- again: the same bytes
   same : which ≡ again → bytes ≡ held → Right held m call which bytes
 
