@@ -7,6 +7,7 @@ pub mod Repeats
 pub mod Faults
 pub mod Timed
 pub mod Handled
+pub mod Afterwards
 pub mod Polls
 pub mod Once
 pub mod Refused

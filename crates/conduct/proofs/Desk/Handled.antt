@@ -29,20 +29,18 @@ use Rattle.deciding.specs.Deciding as r
 use Rattle.deciding.proofs.Rulings.{not-master, a-request, a-poll, another, good-handled, bad-contents, when-accepted, when-refused}
 use Rattle.replying.specs.Fitting.{mayReply, wantedFits}
 use Rattle.replying.specs.Replying.{Origin, Reply, askedOf, polledOf}
-use Rattle.replying.specs.Replying as o
 use Rattle.replying.specs.declared.replying.Wanted.{Wanted}
 use Rattle.replying.specs.declared.replying.Wanted.the-variants.{None, Is}
 use Rattle.desk.specs.Answers.{handled}
-use Rattle.desk.specs.State.{inRanges}
 use Rattle.desk.specs.Panel.{losesLine, notedOf}
-use Rattle.desk.specs.Queue.{oldest, replyTo, takenBy}
-use Rattle.desk.specs.Hearing.{Hearing, faultedOf, repeatedOf, handledOf, appliedOf, ruling, heardOf, hearOf}
+use Rattle.desk.specs.Queue.{oldest, replyTo}
+use Rattle.desk.specs.Hearing.{Hearing, faultedOf, repeatedOf, handledOf, appliedOf, ruling, hearOf}
 use Rattle.desk.specs.declared.state.Desk.{Desk}
 use Rattle.desk.proofs.Permitted.{oldest-replies}
 use Rattle.desk.proofs.Sendings.{hear-room, hear-applied}
-use Rattle.conduct.specs.Desk.Calls.{noted}
+use Rattle.conduct.specs.Desk.Calls.{Fine, noted}
 use Rattle.conduct.specs.Desk.Polls.{Answers}
-use Rattle.conduct.specs.Desk.Handled.{ReplyRow, contents, notMaster, requested, nothingSet, queue, key, panel, RowAnswers, HasRow, OnlyRows, NWithA, SetStays}
+use Rattle.conduct.specs.Desk.Handled.{ReplyRow, contents, notMaster, requested, nothingSet, queue, key, panel, New, RowAnswers, HasRow, OnlyRows, NWithA}
 use Rattle.conduct.proofs.Desk.Steps.{never}
 use Rattle.conduct.proofs.Desk.Kept.{fits}
 
@@ -114,15 +112,20 @@ unfolding notedOf
 noted-line d true = refl
 noted-line d false = refl
 
-pub row-answers : RowAnswers
-row-answers d f at frame out room n rec origin row new =
+-- a frame of a row that is no repeat is handled with the row's reply
+pub row-handled : (d : Desk) → Fine d → (at : ℕ) (frame out : List ℕ) → longest ≤ length out → (n : ℕ) (rec : Record) (origin : Origin) → ReplyRow d frame n rec origin → New d at n
+    → handledOf (noted d at) (losesLine d at) at n (rec, origin) out ≡ hearOf d at frame out
+row-handled d f at frame out room n rec origin row new =
     let e = noted d at in
     let x = row-reads d (fits d f .lined) frame n rec origin row in
     let q = ap (λ (line : ℕ). rulingIn line (e .good) (e .last .0) frame) (sym (noted-line d (losesLine d at))) in
     let s : handle n (x .what) ≡ ruling e frame = good-handled (e .good) (e .last .0) n (x .what) new ∙ x .ruled (e .good) (e .last .0) ∙ q in
-    let h = hear-applied d at frame out (f .ranged) room (losesLine d at) refl e refl (handle n (x .what)) s in
     let p : replyTo e (x .what) ≡ (rec, origin) = noted-reply d (losesLine d at) (x .what) ∙ x .replied in
-    rw (← h, p) (handled-answers d (losesLine d at) at n rec origin out)
+    rw p at (hear-applied d at frame out (f .ranged) room (losesLine d at) refl e refl (handle n (x .what)) s)
+
+pub row-answers : RowAnswers
+row-answers d f at frame out room n rec origin row new =
+    rw (← (row-handled d f at frame out room n rec origin row new)) (handled-answers d (losesLine d at) at n rec origin out)
 
 -- what a handled frame is: one that is read, or one whose contents are refused 8 to 11
 pub data HandledAs (line : ℕ) (frame : List ℕ) : ℕ → What → Type 0 where
@@ -247,34 +250,3 @@ n-with-a d f frame n rec origin (nothingSet q e s) = (λ z. refl, λ z. clash (s
 n-with-a d f frame n rec origin (queue q e s) = (λ z. clash z, λ z. replies-no-n (d .line) (fits d f .lined) (oldest d) (oldest-replies d (f .holds) (fits d f) s))
 n-with-a d f frame n rec origin (key q e s) = (λ z. clash z, λ z t. omega arith)
 n-with-a d f frame n rec origin (panel q m a b) = (λ z. clash z, λ z t. omega arith)
-
--- the first rule and the choice of an answer leave it set
-noted-set : (d : Desk) (b : Bool) → notedOf d b .requested ≡ d .requested
-unfolding notedOf
-noted-set d true = refl
-noted-set d false = refl
-
-taken-set : (d : Desk) (origin : Origin) → takenBy d origin .requested ≡ d .requested
-taken-set d o.requested = refl
-taken-set d o.queue = refl
-taken-set d (o.key position) = refl
-taken-set d (o.panel value rec) = refl
-taken-set d (o.contents value x) = refl
-taken-set d (o.notMaster value) = refl
-taken-set d (o.nothingSet value) = refl
-
-ruled-set : (d : Desk) (b : Bool) (at : ℕ) (s : Ruling) (out : List ℕ) → appliedOf d b at s out .0 .requested ≡ d .requested
-unfolding faultedOf repeatedOf handledOf
-ruled-set d b at (r.silent x) out = refl
-ruled-set d b at (r.fault x n) out = refl
-ruled-set d b at (r.repeat n what) out = refl
-ruled-set d b at (r.handle n what) out = taken-set d (replyTo d what .1)
-
-pub set-stays : SetStays
-unfolding hearOf heardOf
-set-stays d at frame out =
-    on-test (inRanges d)
-    (λ h. on-test (leb longest (length out))
-    (λ b. rw (h, b) (ruled-set (noted d at) (losesLine d at) at (ruling (noted d at) frame) out ∙ noted-set d (losesLine d at)))
-    (λ b. rw (h, b)))
-    (λ h. rw h)

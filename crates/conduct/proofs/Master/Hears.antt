@@ -5,7 +5,7 @@ use mathlib.Core.List.{List}
 use Prim.Native.Nat.{ℕ}
 use native.Mathlib.Omega.{arith}
 use lib.ListN.{length, getD}
-use borrow.Author.Tests.{eq-eqb, ne-eqb, eqb-false}
+use borrow.Author.Tests.{eq-eqb, ne-eqb, eqb-true, eqb-false}
 use Rattle.records.specs.Records.{typeOf}
 use Rattle.records.specs.declared.records.Record.{Record}
 use Rattle.reading.specs.Answers.{Answer, accepted, firstFault, good}
@@ -22,14 +22,15 @@ use Rattle.judging.specs.Judging.{Judged, takenOf}
 use Rattle.judging.specs.Judging as j
 use Rattle.judging.proofs.Verdicts.{by-failure, by-permitted, by-other, when-bad, when-other, when-taken}
 use Rattle.master.specs.declared.state.Master.{Master}
+use Rattle.master.specs.declared.answers.Reason as r
 use Rattle.master.specs.State.{withLine, givenUpState}
 use Rattle.master.specs.Sending.{t2Limit}
 use Rattle.master.specs.Hearing.{settledOf, judged}
 use Rattle.master.specs.Answers as t
 use Rattle.master.proofs.Ranges.{passes}
 use Rattle.master.proofs.Sends.{gave-up, sent-again}
-use Rattle.master.proofs.Hears.{hear-heard}
-use Rattle.conduct.specs.Master.Hears.{HeardInTime, HearsFailure, HearsThirdFailure, HearsAnswer, HearsOtherKind, HearsContents, IgnoresBad, IgnoresOtherNumber}
+use Rattle.master.proofs.Hears.{ignoring, hear-free, hear-heard}
+use Rattle.conduct.specs.Master.Hears.{HeardInTime, HearsFailure, HearsThirdFailure, HearsAnswer, HearsOtherKind, HearsContents, IgnoresBad, IgnoresOtherNumber, IgnoresWhileFree}
 use Rattle.conduct.proofs.Times.{still-runs}
 
 module _ (m : Master) (frame out : List ℕ) where
@@ -83,3 +84,7 @@ pub ignores-other-number : IgnoresOtherNumber
 ignores-other-number m frame out g n =
     settles m frame out j.otherNumber
     (when-other (m .line) (m .number .0) (typeOf (m .rec)) frame (sym g) (getD frame 4 0) (numberIn (getD frame 4 0)) refl refl (ne-eqb (m .number .0) _ n))
+
+pub ignores-while-free : IgnoresWhileFree
+ignores-while-free m h f at frame out room =
+    sym (hear-free m at frame out (passes m (length out) h room) (eqb-true (m .count) 0 f) (ignoring m r.the-variants.Free) refl)

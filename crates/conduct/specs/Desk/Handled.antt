@@ -89,7 +89,3 @@ abbrev pub NWithA : Type 0
 NWithA =
     (d : Desk) → Fine d → (frame : List ℕ) (n : ℕ) (rec : Record) (origin : Origin) → ReplyRow d frame n rec origin
     → (answersN origin ≡ true → rec ≡ Rejected (code "A")) × (answersN origin ≡ false → ¬ (typeOf rec ≡ code "N"))
-
--- whatever is heard, in any state, the record set for r stays set
-abbrev pub SetStays : Type 0
-SetStays = (d : Desk) (at : ℕ) (frame out : List ℕ) → hearOf d at frame out .0 .requested ≡ d .requested

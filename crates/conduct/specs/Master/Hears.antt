@@ -16,7 +16,7 @@ use Rattle.reading.specs.Reading.{readingOf}
 use Rattle.clock.specs.Counters.{numberIn}
 use Rattle.judging.specs.Rules.{isFailure, permittedAnswer}
 use Rattle.master.specs.declared.state.Master.{Master}
-use Rattle.master.specs.State.{withLine, answeredState, givenUpState}
+use Rattle.master.specs.State.{isFree, inRanges, withLine, answeredState, givenUpState}
 use Rattle.master.specs.Sending.{Behind, sendingOf}
 use Rattle.master.specs.Hearing.{hearOf}
 use Rattle.master.specs.Answers as t
@@ -69,3 +69,8 @@ abbrev pub IgnoresOtherNumber : Type 0
 IgnoresOtherNumber =
     (m : Master) (frame out : List ℕ) → firstFault 1 (frameChecks frame) ≡ good → ¬ (m .number .0 ≡ numberIn (getD frame 4 0))
     → HeardInTime m frame out (λ at. (m, (t.ignored t.otherNumber, out)))
+
+-- while free it ignores every frame, at any time
+abbrev pub IgnoresWhileFree : Type 0
+IgnoresWhileFree =
+    (m : Master) → inRanges m ≡ true → isFree m ≡ true → (at : ℕ) (frame out : List ℕ) → longest ≤ length out → hearOf m at frame out ≡ (m, (t.ignored t.free, out))
