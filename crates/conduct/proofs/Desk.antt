@@ -6,6 +6,8 @@ pub mod Stored
 pub mod Repeats
 pub mod Faults
 pub mod Timed
+pub mod Handled
+pub mod Afterwards
 pub mod Polls
 pub mod Once
 pub mod Refused

@@ -6,6 +6,8 @@ pub mod Repeats
 pub mod Faults
 pub mod Stored
 pub mod Polls
+pub mod Handled
+pub mod Afterwards
 pub mod Once
 pub mod Timed
 pub mod Apart

@@ -5,4 +5,7 @@ pub mod Counts
 pub mod Same
 pub mod Ended
 pub mod Timed
+pub mod Hears
+pub mod Refused
+pub mod Paper
 pub mod Apart

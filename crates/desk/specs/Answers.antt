@@ -13,10 +13,10 @@ pub data Done : Type 0 where
   lost : Done
   refused : No → Done
 
-abbrev pub outcomeOf : o.Outcome → Done
-outcomeOf o.the-variants.Done = done
-outcomeOf o.the-variants.Lost = lost
-outcomeOf (o.the-variants.Refused x) = refused (refusalOf x)
+abbrev pub doneOf : o.Outcome → Done
+doneOf o.the-variants.Done = done
+doneOf o.the-variants.Lost = lost
+doneOf (o.the-variants.Refused x) = refused (refusalOf x)
 
 -- what a hearing answers: a refusal; or, with whether the line was noted lost, that it is silent on a reading's refusal, sends N with what
 -- it carries, or handles; or that it repeats. A sending ends with the number of its bytes

@@ -2,7 +2,7 @@
 ghost use mathlib.Core.Path.{_≡_};
 ghost use Prim.Native.Nat.{_<_};
 ghost use Rattle.reading.specs.Answers.{faultOf};
-ghost use Rattle.desk.specs.Answers.{outcomeOf};
+ghost use Rattle.desk.specs.Answers.{doneOf};
 ghost use Rattle.desk.specs.Panel.{losesLine, notedOf, withQueued, withRequested, recordFault, keyFault, tickOf, queueOf, setOf, keyOf};
 use crate::answers::Outcome;
 use crate::state::Desk;
@@ -47,7 +47,7 @@ impl Desk {
 
     // The first rule: line good and T1 run out means line lost.
     pub fn tick(self, at: u32) -> Step
-        ensures { λ r. ⌜ (r .desk, outcomeOf (r .answer)) ≡ tickOf self at ⌝ }
+        ensures { λ r. ⌜ (r .desk, doneOf (r .answer)) ≡ tickOf self at ⌝ }
     {
         if !self.in_ranges() {
             return Step {
@@ -97,7 +97,7 @@ impl Desk {
 
     // Queueing a record: 15, 12, 13, then 17 where 8 are queued.
     pub fn queue(self, rec: Record) -> Step
-        ensures { λ r. ⌜ (r .desk, outcomeOf (r .answer)) ≡ queueOf self rec ⌝ }
+        ensures { λ r. ⌜ (r .desk, doneOf (r .answer)) ≡ queueOf self rec ⌝ }
     {
         let check = self.record_check(rec);
         if let Check::Fails(refusal) = check {
@@ -141,7 +141,7 @@ impl Desk {
 
     // Setting a requested record: 15, 12, 13.
     pub fn set(self, rec: Record) -> Step
-        ensures { λ r. ⌜ (r .desk, outcomeOf (r .answer)) ≡ setOf self rec ⌝ }
+        ensures { λ r. ⌜ (r .desk, doneOf (r .answer)) ≡ setOf self rec ⌝ }
     {
         let check = self.record_check(rec);
         if let Check::Fails(refusal) = check {
@@ -175,7 +175,7 @@ impl Desk {
 
     // The panel's key position: A, X or Y on a line that has one.
     pub fn turn_key(self, key: u8) -> Step
-        ensures { λ r. ⌜ (r .desk, outcomeOf (r .answer)) ≡ keyOf self key ⌝ }
+        ensures { λ r. ⌜ (r .desk, doneOf (r .answer)) ≡ keyOf self key ⌝ }
     {
         let check = self.key_check(key);
         if let Check::Fails(refusal) = check {

@@ -1,6 +1,6 @@
 // The desk's state, its ranges and its start (01 'Link rules', 'Desk'; 'Numbered answers', 15).
 ghost use mathlib.Core.Path.{_≡_};
-ghost use Rattle.desk.specs.Answers.{outcomeOf};
+ghost use Rattle.desk.specs.Answers.{doneOf};
 ghost use Rattle.desk.specs.State.{numbersFit, recordsFit, inRanges, fresh, startOf};
 use crate::answers::Outcome;
 use characters::marks::LONGEST;
@@ -104,7 +104,7 @@ impl Desk {
 
     // A start on a line; refused 15, with a blank state of line 0, where there is no such line.
     pub fn start(line: u8) -> Step
-        ensures { λ r. ⌜ (r .desk, outcomeOf (r .answer)) ≡ startOf line ⌝ }
+        ensures { λ r. ⌜ (r .desk, doneOf (r .answer)) ≡ startOf line ⌝ }
     {
         if is_line(line) {
             Step {

@@ -17,9 +17,8 @@ use Rattle.judging.specs.declared.judging.Verdict.{Verdict}
 use Rattle.judging.specs.declared.judging.Verdict.the-variants as j
 use Rattle.master.specs.declared.state.Master.{Master}
 use Rattle.master.specs.declared.state.Step.{Step}
-use Rattle.master.specs.declared.answers.Cause.the-variants.{Rejected}
 use Rattle.master.specs.declared.answers.Reason.{Reason}
-use Rattle.master.specs.Answers.{Told, toldOf, answered}
+use Rattle.master.specs.Answers.{rejected, Told, toldOf, answered}
 use Rattle.master.specs.State.{callFault, withLine, answeredState}
 use Rattle.master.specs.Sending.{t2Limit, failedOf}
 use Rattle.master.specs.Hearing.{endedOf, settledOf, hearOf}
@@ -40,7 +39,7 @@ module _ (m : Master) (at : ℕ) (out : List ℕ) (v : Verdict) where
   settle-other h s e = rw (h, e)
 
   module _ (n : Master) (e : n ≡ withLine m true) where
-    pub settle-failed : v ≡ j.Failed → failedOf Rejected true n at out ≡ settledOf m at (judgedOf v) out
+    pub settle-failed : v ≡ j.Failed → failedOf rejected true n at out ≡ settledOf m at (judgedOf v) out
     settle-failed h = rw (h, e)
 
     pub settle-answered : (rec : Record) → v ≡ j.Answered rec → (o : Master) → o ≡ answeredState n → (o, (answered rec (m .count), out)) ≡ settledOf m at (judgedOf v) out

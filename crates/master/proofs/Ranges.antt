@@ -23,7 +23,7 @@ use Rattle.characters.specs.Marks.{longest}
 use Rattle.judging.specs.Rules.{pollOf}
 use Rattle.master.specs.declared.state.Master.{Master}
 use Rattle.master.specs.Answers.{refused, nothing}
-use Rattle.master.specs.State.{isFree, sendable, inRanges, callFault, withLine, started, blank, startOf}
+use Rattle.master.specs.State.{isFree, sendable, inRanges, callFault, withLine, started, unstarted, startOf}
 
 -- a fault is no pass
 pub no-pass : {A : Type 0} {x : No} → fails x ≡ good → A
@@ -135,7 +135,7 @@ module _ (m : Master) (room : ℕ) where
 
 -- the start, refused 15 where there is no such line
 module _ (line at : ℕ) where
-  pub start-refused : isLine line ≡ false → (blank, refused (no 15 0)) ≡ startOf line at
+  pub start-refused : isLine line ≡ false → (unstarted, refused (no 15 0)) ≡ startOf line at
   unfolding startOf
   start-refused h = rw h
 

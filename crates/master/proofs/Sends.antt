@@ -19,11 +19,7 @@ use Rattle.characters.specs.Marks.{longest}
 use Rattle.judging.specs.Rules.{pollOf}
 use Rattle.master.specs.declared.state.Master.{Master}
 use Rattle.master.specs.declared.state.Step.{Step}
-use Rattle.master.specs.declared.answers.Sending.{Sending}
-use Rattle.master.specs.declared.answers.Sending.the-variants.{Offered, Again, Poll}
-use Rattle.master.specs.declared.answers.Cause.{Cause}
-use Rattle.master.specs.declared.answers.Cause.the-variants.{Silence}
-use Rattle.master.specs.Answers.{toldOf, nothing, sent, givenUp}
+use Rattle.master.specs.Answers.{Which, offered, again, poll, Ground, silence, toldOf, nothing, sent, givenUp}
 use Rattle.master.specs.State.{isFree, callFault, afterSending, withLine, givenUpState}
 use Rattle.master.specs.Sending.{Behind, t0Limit, t2Limit, sendingOf, failedOf, offerFault, offerOf, pollingOf, waitingOf, tickOf}
 use Rattle.master.proofs.Ranges.{no-pass}
@@ -37,21 +33,21 @@ stepped s out = (s .master, (toldOf (s .answer), out))
 abbrev pub refusing : Master → Refusal → Step
 refusing m x = record { master = m; answer = a.the-variants.Refused x }
 
-pub sent-off : (sending : Sending) (m n : Master) (rec : Record) (count at number bytes : ℕ) (out new : List ℕ) → permitsRecord (m .line) rec ≡ true → m .number .0 < 2 → longest ≤ length out
-    → n ≡ afterSending m rec count at → number ≡ m .number .0 → (bytes, new) ≡ sendOf (m .line) rec number out → (n, (sent sending count bytes, new)) ≡ sendingOf sending m rec count at out
+pub sent-off : (which : Which) (m n : Master) (rec : Record) (count at number bytes : ℕ) (out new : List ℕ) → permitsRecord (m .line) rec ≡ true → m .number .0 < 2 → longest ≤ length out
+    → n ≡ afterSending m rec count at → number ≡ m .number .0 → (bytes, new) ≡ sendOf (m .line) rec number out → (n, (sent which count bytes, new)) ≡ sendingOf which m rec count at out
 unfolding sendingOf
-sent-off sending m n rec count at number bytes out new p l room e q f =
+sent-off which m n rec count at number bytes out new p l room e q f =
     let g : (bytes, new) ≡ sendOf (m .line) rec (m .number .0) out = rw q at f in
     rw (e, ← (g ∙ sent-whole (m .line) rec (m .number .0) out p l room))
 
-module _ (cause : Cause) (g : Bool) (m : Master) (at : ℕ) (out : List ℕ) where
-  pub gave-up : m .count ≡ 3 → (n : Master) → n ≡ givenUpState (withLine m g) → (n, (givenUp cause (m .count), out)) ≡ failedOf cause g m at out
+module _ (ground : Ground) (g : Bool) (m : Master) (at : ℕ) (out : List ℕ) where
+  pub gave-up : m .count ≡ 3 → (n : Master) → n ≡ givenUpState (withLine m g) → (n, (givenUp ground (m .count), out)) ≡ failedOf ground g m at out
   unfolding failedOf
   gave-up h n e = rw (e, eq-eqb (m .count) 3 h)
 
-  pub again : ¬ (m .count ≡ 3) → sendingOf Again m (m .rec) (m .count + 1) at out ≡ failedOf cause g m at out
+  pub sent-again : ¬ (m .count ≡ 3) → sendingOf again m (m .rec) (m .count + 1) at out ≡ failedOf ground g m at out
   unfolding failedOf
-  again h = rw (ne-eqb (m .count) 3 h)
+  sent-again h = rw (ne-eqb (m .count) 3 h)
 
 -- 16, then 12, then 13
 module _ (m : Master) (rec : Record) where
@@ -68,9 +64,9 @@ module _ (m : Master) (rec : Record) where
     unfolding offerFault
     not-permitted h p = let k : byMaster (m .line) (typeOf rec) ≡ true = rw e at h in rw (eq-eqb (m .count) 0 f, k, p)
 
-    pub offered : byMaster (m .line) kind ≡ true → permitsRecord (m .line) rec ≡ true → good ≡ offerFault m rec
+    pub may-offer : byMaster (m .line) kind ≡ true → permitsRecord (m .line) rec ≡ true → good ≡ offerFault m rec
     unfolding offerFault
-    offered h p = let k : byMaster (m .line) (typeOf rec) ≡ true = rw e at h in rw (eq-eqb (m .count) 0 f, k, p)
+    may-offer h p = let k : byMaster (m .line) (typeOf rec) ≡ true = rw e at h in rw (eq-eqb (m .count) 0 f, k, p)
 
   pub offer-passed : good ≡ offerFault m rec → (isFree m ≡ true) × ((byMaster (m .line) (typeOf rec) ≡ true) × (permitsRecord (m .line) rec ≡ true))
   unfolding offerFault
@@ -92,7 +88,7 @@ module _ (m : Master) (at : ℕ) (rec : Record) (out : List ℕ) where
     unfolding offerOf
     offer-barred x h s e = rw (e, ← g, ← h)
 
-    pub offer-sent : good ≡ offerFault m rec → sendingOf Offered m rec 1 at out ≡ offerOf m at rec out
+    pub offer-sent : good ≡ offerFault m rec → sendingOf offered m rec 1 at out ≡ offerOf m at rec out
     unfolding offerOf
     offer-sent h = rw (← g, ← h)
 
@@ -103,7 +99,7 @@ module _ (m : Master) (at : ℕ) (out : List ℕ) where
     unfolding pollingOf
     no-poll h = rw (← e, h)
 
-    pub polled : runOut at (m .t0) limit ≡ true → (rec : Record) → rec ≡ pollOf (m .line) → sendingOf Poll m rec 1 at out ≡ pollingOf m at out
+    pub polled : runOut at (m .t0) limit ≡ true → (rec : Record) → rec ≡ pollOf (m .line) → sendingOf poll m rec 1 at out ≡ pollingOf m at out
     unfolding pollingOf
     polled h rec q = rw (← e, h, q)
 
@@ -111,7 +107,7 @@ module _ (m : Master) (at : ℕ) (out : List ℕ) where
   unfolding waitingOf
   waits h = rw h
 
-  pub silent : runOut at (m .t2) t2Limit ≡ true → failedOf Silence false m at out ≡ waitingOf m at out
+  pub silent : runOut at (m .t2) t2Limit ≡ true → failedOf silence false m at out ≡ waitingOf m at out
   unfolding waitingOf
   silent h = rw h
 

@@ -9,7 +9,6 @@ use Rattle.clock.specs.Clock.{runOut}
 use Rattle.judging.specs.Judging.{Judged, judgeOf}
 use Rattle.judging.specs.Judging as j
 use Rattle.master.specs.declared.state.Master.{Master}
-use Rattle.master.specs.declared.answers.Cause.the-variants.{Rejected}
 use Rattle.master.specs.State.{isFree, callFault, withLine, answeredState}
 use Rattle.master.specs.Sending.{Behind, t2Limit, unlessRefused, failedOf}
 use Rattle.master.specs.Answers as t
@@ -28,7 +27,7 @@ abbrev pub settledOf : Master → ℕ → Judged → List ℕ → Behind
 settledOf m at (j.refused x) out = ignoring (t.Why.refused x) m out
 settledOf m at j.otherNumber out = ignoring t.otherNumber m out
 -- else the line is good: N with 1 or 2 is a failed sending, and the line stays good
-settledOf m at j.failed out = failedOf Rejected true (withLine m true) at out
+settledOf m at j.failed out = failedOf t.rejected true (withLine m true) at out
 -- all else ends the telegram as answered, permitted or of another kind
 settledOf m at (j.answered rec) out = (answeredState (withLine m true), (t.answered rec (m .count), out))
 settledOf m at (j.otherKind answer) out = (endedOf (withLine m true) answer .0, (endedOf (withLine m true) answer .1, out))

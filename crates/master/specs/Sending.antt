@@ -15,11 +15,7 @@ use Rattle.writing.specs.Writing.{telegramOf, sentOf}
 use Rattle.clock.specs.Clock.{runOut}
 use Rattle.judging.specs.Rules.{pollOf}
 use Rattle.master.specs.declared.state.Master.{Master}
-use Rattle.master.specs.declared.answers.Sending.{Sending}
-use Rattle.master.specs.declared.answers.Sending.the-variants.{Offered, Again, Poll}
-use Rattle.master.specs.declared.answers.Cause.{Cause}
-use Rattle.master.specs.declared.answers.Cause.the-variants.{Silence}
-use Rattle.master.specs.Answers.{Told, refused, nothing, sent, givenUp}
+use Rattle.master.specs.Answers.{Which, offered, again, poll, Ground, silence, Told, refused, nothing, sent, givenUp}
 use Rattle.master.specs.State.{isFree, callFault, afterSending, withLine, givenUpState}
 
 -- the state, the answer and the output behind a call
@@ -40,18 +36,18 @@ abbrev pub t2Limit : ℕ
 t2Limit = 2000
 
 -- sends the record's telegram with the number to send
-unfoldable pub sendingOf : Sending → Master → Record → ℕ → ℕ → List ℕ → Behind
-sendingOf sending m rec count at out = tells (sentOf (telegramOf (m .line) rec (m .number .0)) out)
+unfoldable pub sendingOf : Which → Master → Record → ℕ → ℕ → List ℕ → Behind
+sendingOf which m rec count at out = tells (sentOf (telegramOf (m .line) rec (m .number .0)) out)
   where
     tells : ℕ × List ℕ → Behind
-    tells s = (afterSending m rec count at, (sent sending count (s .0), s .1))
+    tells s = (afterSending m rec count at, (sent which count (s .0), s .1))
 
 -- a failed sending: with a count of 1 or 2 it sends the same bytes again and adds 1; with 3 it gives up, and the line is then good or lost
-unfoldable pub failedOf : Cause → Bool → Master → ℕ → List ℕ → Behind
-failedOf cause g m at out =
+unfoldable pub failedOf : Ground → Bool → Master → ℕ → List ℕ → Behind
+failedOf ground g m at out =
     cond (eqb (m .count) 3)
-    (givenUpState (withLine m g), (givenUp cause (m .count), out))
-    (sendingOf Again m (m .rec) (m .count + 1) at out)
+    (givenUpState (withLine m g), (givenUp ground (m .count), out))
+    (sendingOf again m (m .rec) (m .count + 1) at out)
 
 -- the offer: 16 where the master is not free, T2 run out or not; 12 where it does not send the record on this line; 13 where a value is outside its range
 unfoldable pub offerFault : Master → Record → Fault
@@ -68,15 +64,15 @@ unfoldable pub offerOf : Master → ℕ → Record → List ℕ → Behind
 offerOf m at rec out =
     unlessRefused (callFault m (length out)) m out
     (unlessRefused (offerFault m rec) m out
-    (sendingOf Offered m rec 1 at out))
+    (sendingOf offered m rec 1 at out))
 
 -- tick while free and T0 run out: sends the poll
 unfoldable pub pollingOf : Master → ℕ → List ℕ → Behind
-pollingOf m at out = cond (runOut at (m .t0) (t0Limit m)) (sendingOf Poll m (pollOf (m .line)) 1 at out) (m, (nothing, out))
+pollingOf m at out = cond (runOut at (m .t0) (t0Limit m)) (sendingOf poll m (pollOf (m .line)) 1 at out) (m, (nothing, out))
 
 -- tick while not free and T2 run out: a failed sending, and giving up notes the line lost
 unfoldable pub waitingOf : Master → ℕ → List ℕ → Behind
-waitingOf m at out = cond (runOut at (m .t2) t2Limit) (failedOf Silence false m at out) (m, (nothing, out))
+waitingOf m at out = cond (runOut at (m .t2) t2Limit) (failedOf silence false m at out) (m, (nothing, out))
 
 -- a tick does at most one of these, by the state it finds
 unfoldable pub tickOf : Master → ℕ → List ℕ → Behind

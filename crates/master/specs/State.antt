@@ -27,12 +27,12 @@ abbrev pub started : ℕ → ℕ → Master
 started line at = record { line = line; good = true; number = toSend 0; count = 0; rec = Idling (code "t"); t0 = at; t2 = at }
 
 -- what a refused start gives: a fixed state whose line is 0
-abbrev pub blank : Master
-blank = record { line = 0; good = false; number = toSend 0; count = 0; rec = Idling (code "t"); t0 = 0; t2 = 0 }
+abbrev pub unstarted : Master
+unstarted = record { line = 0; good = false; number = toSend 0; count = 0; rec = Idling (code "t"); t0 = 0; t2 = 0 }
 
 -- 15 where the line is not 1, 2 or 3
 unfoldable pub startOf : ℕ → ℕ → Master × Told
-startOf line at = cond (isLine line) (started line at, nothing) (blank, refused (no 15 0))
+startOf line at = cond (isLine line) (started line at, nothing) (unstarted, refused (no 15 0))
 
 -- free: no sending waits or is to be made again
 abbrev pub isFree : Master → Bool

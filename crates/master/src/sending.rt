@@ -6,7 +6,7 @@ ghost use lib.ListN.{length};
 ghost use Rattle.values.specs.Values.{permitsRecord};
 ghost use Rattle.reading.specs.Answers.{faultOf};
 ghost use Rattle.characters.specs.Marks.{longest};
-ghost use Rattle.master.specs.Answers.{toldOf};
+ghost use Rattle.master.specs.Answers.{whichOf, groundOf, toldOf};
 ghost use Rattle.master.specs.State.{isFree, inRanges, withLine, givenUpState};
 ghost use Rattle.master.specs.Sending.{t0Limit, sendingOf, failedOf, offerFault, offerOf, pollingOf, waitingOf, tickOf};
 use crate::answers::Answer;
@@ -41,7 +41,7 @@ impl Master {
     // Sends a record's telegram with the number to send; every sending restarts T0 and T2.
     fn send(self, sending: Sending, rec: Record, count: u8, at: u32, out: &mut [u8]) -> Step
         requires { ⌜ (permitsRecord (self .line) rec ≡ true) × ((self .number .0 < 2) × (longest ≤ length (now out))) ⌝ }
-        ensures { λ r. ⌜ (r .master, (toldOf (r .answer), now (out .exit))) ≡ sendingOf sending self rec count at (now (out .entry)) ⌝ }
+        ensures { λ r. ⌜ (r .master, (toldOf (r .answer), now (out .exit))) ≡ sendingOf (whichOf sending) self rec count at (now (out .entry)) ⌝ }
     {
         let number = self.number;
         let bytes = send(self.line, rec, number.value(), out);
@@ -66,7 +66,7 @@ impl Master {
     // A failed sending: sent again with a count of 1 or 2, given up with 3.
     pub(crate) fn fail(self, cause: Cause, good: bool, at: u32, out: &mut [u8]) -> Step
         requires { ⌜ (inRanges self ≡ true) × ((isFree self ≡ false) × (longest ≤ length (now out))) ⌝ }
-        ensures { λ r. ⌜ (r .master, (toldOf (r .answer), now (out .exit))) ≡ failedOf cause good self at (now (out .entry)) ⌝ }
+        ensures { λ r. ⌜ (r .master, (toldOf (r .answer), now (out .exit))) ≡ failedOf (groundOf cause) good self at (now (out .entry)) ⌝ }
     {
         let count = self.count;
         if count == 3 {

@@ -50,17 +50,17 @@ module _ (line : ℕ) (s : List ℕ) (kind : ℕ) (looked : Looked) (e : kind �
   on-form h d number g i k = rw (← (same Nowhere d number g i k), h)
 
 -- a row of checks behind another
-abbrev after : Fault → Fault → Fault
-after good f = f
-after (fails x) f = fails x
+abbrev firstOf : Fault → Fault → Fault
+firstOf good f = f
+firstOf (fails x) f = fails x
 
-in-turn : (k : ℕ) (xs ys : List Spot) → firstFault k (xs ++ ys) ≡ after (firstFault k xs) (firstFault (k + length xs) ys)
+in-turn : (k : ℕ) (xs ys : List Spot) → firstFault k (xs ++ ys) ≡ firstOf (firstFault k xs) (firstFault (k + length xs) ys)
 in-turn k [] ys = rw (add-zero k)
 in-turn k (Nowhere ∷ xs) ys = let e : k + 1 + length xs ≡ k + length (Nowhere ∷ xs) = omega arith in in-turn (k + 1) xs ys ∙ rw e
 in-turn k (At place ∷ xs) ys = refl
 
 module _ (line : ℕ) (s : List ℕ) where
-  frame-then : firstFault 1 (checks line s) ≡ after (firstFault 1 (frameChecks s)) (firstFault 8 (fieldChecks line s))
+  frame-then : firstFault 1 (checks line s) ≡ firstOf (firstFault 1 (frameChecks s)) (firstFault 8 (fieldChecks line s))
   unfolding checks frameChecks
   frame-then = in-turn 1 (frameChecks s) (fieldChecks line s)
 

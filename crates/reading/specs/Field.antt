@@ -22,8 +22,8 @@ dataOf (p ∷ ps) vs = p .letter ∷ (textOf (p .letter) (p .len) (getD vs 0 0) 
 abbrev pub behind : Slot → ℕ → ℕ
 behind p at = at + (1 + p .len)
 
-abbrev pub after : Slot → List ℕ → List ℕ
-after p d = drop (1 + p .len) d
+abbrev pub dataBehind : Slot → List ℕ → List ℕ
+dataBehind p d = drop (1 + p .len) d
 
 -- the characters of the packet that d begins with
 abbrev pub packetValue : Slot → List ℕ → List ℕ
@@ -37,18 +37,18 @@ outside at (b ∷ bs) = cond (inSet b) (outside (at + 1) bs) (At at)
 -- the first packet letter that is not the form's
 unfoldable pub wrongLetter : ℕ → List Slot → List ℕ → Spot
 wrongLetter at [] d = Nowhere
-wrongLetter at (p ∷ ps) d = cond (eqb (getD d 0 0) (p .letter)) (wrongLetter (behind p at) ps (after p d)) (At at)
+wrongLetter at (p ∷ ps) d = cond (eqb (getD d 0 0) (p .letter)) (wrongLetter (behind p at) ps (dataBehind p d)) (At at)
 
 -- the letter of the first packet whose value is not permitted
 unfoldable pub badValue : ℕ → ℕ → ℕ → List Slot → List ℕ → Spot
 badValue line kind at [] d = Nowhere
-badValue line kind at (p ∷ ps) d = cond (permitted line kind (p .letter) (packetValue p d)) (badValue line kind (behind p at) ps (after p d)) (At at)
+badValue line kind at (p ∷ ps) d = cond (permitted line kind (p .letter) (packetValue p d)) (badValue line kind (behind p at) ps (dataBehind p d)) (At at)
 
 -- the packets' values, with 0 in the places behind them, n in all
 unfoldable pub valuesIn : ℕ → List Slot → List ℕ → List ℕ
 valuesIn zero ps d = []
 valuesIn (suc n) [] d = 0 ∷ valuesIn n [] d
-valuesIn (suc n) (p ∷ ps) d = valueOf (p .letter) (packetValue p d) ∷ valuesIn n ps (after p d)
+valuesIn (suc n) (p ∷ ps) d = valueOf (p .letter) (packetValue p d) ∷ valuesIn n ps (dataBehind p d)
 
 -- data field of another length (place 5), or a packet letter wrong
 unfoldable pub misshapen : Form → List ℕ → Spot

@@ -15,7 +15,7 @@ use Rattle.characters.specs.Characters.{inSet}
 use Rattle.forms.specs.Lines.{isLine}
 use Rattle.forms.specs.Forms.{Slot, widthIn}
 use Rattle.values.specs.Values.{narrow, textOf, permitted, permitsValue, permitsValues}
-use Rattle.reading.specs.Field.{dataOf, behind, after, packetValue, outside, wrongLetter, badValue, valuesIn}
+use Rattle.reading.specs.Field.{dataOf, behind, dataBehind, packetValue, outside, wrongLetter, badValue, valuesIn}
 use Rattle.reading.specs.declared.answers.Spot.the-variants.{Nowhere}
 use Rattle.roundtrips.proofs.Rows.{noSlot, narrowSlot}
 use Rattle.roundtrips.proofs.Faults.{no-fault}
@@ -49,7 +49,7 @@ module _ (p : Slot) (x : ℕ) (d : List ℕ) where
   opened-value : packetValue p opened ≡ textOf (p .letter) (p .len) x
   opened-value = take-at (textOf (p .letter) (p .len) x) d (p .len) (text-length (p .letter) (p .len) x)
 
-  opened-after : after p opened ≡ d
+  opened-after : dataBehind p opened ≡ d
   opened-after = rw (one-add (p .len)) (drop-at (textOf (p .letter) (p .len) x) d (p .len) (text-length (p .letter) (p .len) x))
 
 -- a field begins with the letter of its first packet
@@ -129,13 +129,13 @@ module _ (line kind at : ℕ) (p : Slot) (ps : List Slot) (d : List ℕ) (c : Cl
   unfolding widthIn
   clear-filled = c .filled
 
-  clear-letter : (eqb (getD d 0 0) (p .letter) ≡ true) × (wrongLetter (behind p at) ps (after p d) ≡ Nowhere)
+  clear-letter : (eqb (getD d 0 0) (p .letter) ≡ true) × (wrongLetter (behind p at) ps (dataBehind p d) ≡ Nowhere)
   unfolding wrongLetter
-  clear-letter = no-fault (eqb (getD d 0 0) (p .letter)) at (wrongLetter (behind p at) ps (after p d)) (c .letters)
+  clear-letter = no-fault (eqb (getD d 0 0) (p .letter)) at (wrongLetter (behind p at) ps (dataBehind p d)) (c .letters)
 
-  clear-value : (permitted line kind (p .letter) (packetValue p d) ≡ true) × (badValue line kind (behind p at) ps (after p d) ≡ Nowhere)
+  clear-value : (permitted line kind (p .letter) (packetValue p d) ≡ true) × (badValue line kind (behind p at) ps (dataBehind p d) ≡ Nowhere)
   unfolding badValue
-  clear-value = no-fault (permitted line kind (p .letter) (packetValue p d)) at (badValue line kind (behind p at) ps (after p d)) (c .values)
+  clear-value = no-fault (permitted line kind (p .letter) (packetValue p d)) at (badValue line kind (behind p at) ps (dataBehind p d)) (c .values)
 
   clear-length : length (packetValue p d) ≡ p .len
   clear-length = length-take-le (p .len) (drop 1 d) (omega (arith, clear-filled, length-drop 1 d))
@@ -144,11 +144,11 @@ module _ (line kind at : ℕ) (p : Slot) (ps : List Slot) (d : List ℕ) (c : Cl
   clear-narrow q = rw clear-length q
 
   -- the field is a packet and what stands behind it
-  clear-split : p .letter ∷ (packetValue p d ++ after p d) ≡ d
+  clear-split : p .letter ∷ (packetValue p d ++ dataBehind p d) ≡ d
   clear-split = split-first d (p .letter) (p .len) (omega (arith, clear-filled)) (eqb-true _ _ (clear-letter .0))
 
   -- and that is without a fault
-  clear-after : Clear line kind (behind p at) ps (after p d)
+  clear-after : Clear line kind (behind p at) ps (dataBehind p d)
   clear-after = record { filled = omega (arith, clear-filled, length-drop (1 + p .len) d); letters = clear-letter .1; values = clear-value .1 }
 
 module _ (line kind : ℕ) (l : isLine line ≡ true) where
@@ -162,7 +162,7 @@ module _ (line kind : ℕ) (l : isLine line ≡ true) where
       (rw (clear-length line kind at p ps d c) at
       (value-permitted line kind (p .letter) l (packetValue p d) (clear-narrow line kind at p ps d c (both-left _ _ q))
       (clear-value line kind at p ps d c .0)))
-      (values-permitted n (behind p at) ps (after p d) (omega arith) (both-right (narrowSlot p) _ q) (clear-after line kind at p ps d c))
+      (values-permitted n (behind p at) ps (dataBehind p d) (omega arith) (both-right (narrowSlot p) _ q) (clear-after line kind at p ps d c))
 
   -- and their packets are the field
   pub values-data : (n at : ℕ) (ps : List Slot) (d : List ℕ) → length ps ≤ n → every narrowSlot ps ≡ true → Clear line kind at ps d → dataOf ps (valuesIn n ps d) ≡ d
@@ -173,6 +173,6 @@ module _ (line kind : ℕ) (l : isLine line ≡ true) where
   values-data (suc n) at (p ∷ ps) d h q c =
       rw (
         rw (clear-length line kind at p ps d c) at (value-text line kind (p .letter) l (packetValue p d) (clear-narrow line kind at p ps d c (both-left _ _ q)) (clear-value line kind at p ps d c .0)),
-        values-data n (behind p at) ps (after p d) (omega arith) (both-right (narrowSlot p) _ q) (clear-after line kind at p ps d c),
+        values-data n (behind p at) ps (dataBehind p d) (omega arith) (both-right (narrowSlot p) _ q) (clear-after line kind at p ps d c),
       )
       (clear-split line kind at p ps d c)

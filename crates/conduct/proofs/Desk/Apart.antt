@@ -2,7 +2,7 @@
 use mathlib.Core.Path.{_≡_, refl, sym, ap, _∙_}
 use Rattle.replying.specs.Replying.{Origin, requested, queue, key, panel, contents, notMaster, nothingSet, originOf}
 use Rattle.replying.specs.declared.replying.Source as s
-use Rattle.desk.specs.Answers.{Done, done, lost, outcomeOf, Told, silent, fault, repeat, handled, toldOf}
+use Rattle.desk.specs.Answers.{Done, done, lost, doneOf, Told, silent, fault, repeat, handled, toldOf}
 use Rattle.desk.specs.Answers as t
 use Rattle.desk.specs.declared.answers.Outcome as o
 use Rattle.desk.specs.declared.answers.Heard as h
@@ -15,7 +15,7 @@ outcomeBack done = o.the-variants.Done
 outcomeBack lost = o.the-variants.Lost
 outcomeBack (t.refused x) = o.the-variants.Refused (backOf x)
 
-outcome-back : (x : o.Outcome) → outcomeBack (outcomeOf x) ≡ x
+outcome-back : (x : o.Outcome) → outcomeBack (doneOf x) ≡ x
 outcome-back o.the-variants.Done = refl
 outcome-back o.the-variants.Lost = refl
 outcome-back (o.the-variants.Refused x) = ap o.the-variants.Refused (refusal-back x)

@@ -32,7 +32,7 @@ use Rattle.desk.proofs.Ranges.{Fits, ranges-parts, parts-ranges, noted-ranges, 
 use Rattle.desk.proofs.Permitted.{answer-permitted}
 use Rattle.conduct.specs.Desk.Polls.{waiting}
 use Rattle.conduct.proofs.Desk.Waiting.{filled-behind, oldest-taken, every-behind, every-tail}
-use Rattle.conduct.specs.Desk.Calls.{Call, ticks, queues, sets, turns, hears, did, Behind, after, run, refusedBy, Fine}
+use Rattle.conduct.specs.Desk.Calls.{Call, ticks, queues, sets, turns, hears, did, Result, after, run, refusedBy, Fine}
 use Rattle.conduct.specs.Desk.Kept.{Bounds, Never15}
 use Rattle.conduct.proofs.Desk.Steps.{Does, barred, noRoom, ticked, queued, isSet, turned, unmoved, faults, repeats, handled, does}
 
@@ -189,7 +189,7 @@ pub keeps : (d : Desk) → Fine d → (call : Call) → Keeps d (after d call .0
 unfolding faultedOf repeatedOf handledOf
 keeps d f call = go call (after d call) (does d (f .ranged) call)
   where
-    go : (call : Call) (behind : Behind) → Does d call behind → Keeps d (behind .0)
+    go : (call : Call) (behind : Result) → Does d call behind → Keeps d (behind .0)
     go call behind (barred n) = stays d f
     go call behind noRoom = stays d f
     go call behind (ticked {at}) = noted-keeps d f (losesLine d at)
@@ -222,7 +222,7 @@ pub not-15 : (d : Desk) → inRanges d ≡ true → (call : Call) → ¬ (refuse
 unfolding faultedOf repeatedOf handledOf
 not-15 d h call = go call (after d call) (does d h call)
   where
-    go : (call : Call) (behind : Behind) → Does d call behind → ¬ (refusedBy (behind .1) ≡ 15)
+    go : (call : Call) (behind : Result) → Does d call behind → ¬ (refusedBy (behind .1) ≡ 15)
     go call behind (barred n) q = n q
     go call behind noRoom q = omega arith
     go call behind (ticked {at}) q = ticks-not (losesLine d at) q

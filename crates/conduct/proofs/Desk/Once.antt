@@ -32,7 +32,7 @@ use Rattle.replying.specs.declared.waiting.Waiting.{Waiting}
 use Rattle.desk.specs.declared.state.Desk.{Desk}
 use Rattle.replying.proofs.Permitted.{reply-allowed}
 use Rattle.desk.proofs.Permitted.{oldest-replies}
-use Rattle.conduct.specs.Desk.Calls.{Call, ticks, queues, sets, turns, hears, did, Behind, hearing, after, run, Fine}
+use Rattle.conduct.specs.Desk.Calls.{Call, ticks, queues, sets, turns, hears, did, Result, hearing, after, run, Fine}
 use Rattle.conduct.specs.Desk.Polls.{waiting, Answers}
 use Rattle.conduct.specs.Desk.Once.{records, queuedIn, givenIn, accepted, given, QueuedOnce}
 use Rattle.conduct.proofs.Desk.Waiting.{filled-behind}
@@ -42,7 +42,7 @@ use Rattle.conduct.proofs.Desk.Kept.{fits, keeps, start-fine}
 use Rattle.conduct.proofs.Desk.Polls.{polled, takes-oldest, answers-key}
 
 -- what waits and what is queued is what is given and what waits then
-abbrev Balanced : Desk → Call → Behind → Type 0
+abbrev Balanced : Desk → Call → Result → Type 0
 Balanced d call turn = records d ++ queuedIn call (turn .1) ≡ givenIn (d .line) (turn .1) ++ records (turn .0)
 
 module _ (d : Desk) (f : Fine d) where
@@ -102,7 +102,7 @@ module _ (d : Desk) (f : Fine d) where
   unfolding faultedOf repeatedOf
   balanced call = go call (after d call) (does d (f .ranged) call)
     where
-      go : (call : Call) (turn : Behind) → Does d call turn → Balanced d call turn
+      go : (call : Call) (turn : Result) → Does d call turn → Balanced d call turn
       go call turn (s.barred {x = x} n) = none-refused call x
       go call turn s.noRoom = append-nil (records d)
       go call turn (s.ticked {at}) = noted-waits (losesLine d at)

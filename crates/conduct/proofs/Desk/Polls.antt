@@ -8,27 +8,21 @@ use native.Mathlib.Omega.{arith}
 use lib.Dec.{leb, eqb}
 use lib.ListN.{length, getD, take}
 use borrow.Author.Tests.{leb-true, leb-false, eq-eqb, ne-eqb, eqb-true}
-use Rattle.laws.specs.Truth.{from}
 use Rattle.laws.proofs.Passes.{on-test}
-use Rattle.forms.specs.Lines.{isLine, lineOf}
-use Rattle.forms.proofs.Found.{each-line}
-use Rattle.forms.specs.Forms.{byMaster, forms, onLine, lookIn, typeRow}
+use Rattle.forms.specs.Lines.{lineOf}
+use Rattle.forms.specs.Forms.{byMaster}
 use Rattle.records.specs.Records.{typeOf}
 use Rattle.records.specs.declared.records.Record.{Record}
 use Rattle.records.specs.declared.records.Record.the-variants.{Approved}
-use Rattle.records.specs.Refusals.{No}
-use Rattle.reading.specs.Answers.{Answer, accepted}
-use Rattle.reading.specs.Answers as w
+use Rattle.reading.specs.Answers.{accepted}
 use Rattle.reading.specs.Reading.{readingOf}
 use Rattle.writing.specs.Writing.{sentOf}
 use Rattle.characters.specs.Marks.{longest}
-use Rattle.clock.specs.Counters.{isNumber, numberIn}
-use Rattle.deciding.specs.Deciding.{Ruling, silent, fault, repeat, handle, What, contents, notMaster, request, poll, other, repeats, matterIn, goodFrame, badFrame, ruledBy, rulingIn}
+use Rattle.deciding.specs.Deciding.{Ruling, silent, fault, repeat, handle, What, contents, notMaster, request, poll, other, matterIn}
 use Rattle.deciding.proofs.Rulings.{a-poll, good-handled, when-accepted}
 use Rattle.replying.specs.Replying.{queue, key, askedOf, keyOn, polledOf}
 use Rattle.replying.specs.declared.replying.Wanted.{Wanted}
 use Rattle.replying.specs.declared.replying.Wanted.the-variants.{None, Is}
-use Rattle.desk.specs.Answers.{handled}
 use Rattle.replying.specs.Waiting.{blank, shifted}
 use Rattle.desk.specs.Panel.{losesLine, notedOf}
 use Rattle.desk.specs.Queue.{oldest, replyTo, takenBy}
@@ -36,11 +30,12 @@ use Rattle.desk.specs.Hearing.{Hearing, faultedOf, repeatedOf, handledOf, appli
 use Rattle.replying.specs.declared.waiting.Waiting.{Waiting}
 use Rattle.desk.specs.declared.state.Desk.{Desk}
 use Rattle.conduct.specs.Desk.Calls.{noted, Fine}
-use Rattle.conduct.specs.Desk.Polls.{waiting, Answers, Same, PollsByT, TPolls, PollOldest, PollEmpty, OthersLeave}
+use Rattle.conduct.specs.Desk.Polls.{waiting, Answers, Same, PollsByT, TPolls, PollOldest, PollEmpty, KeyByLine, OthersLeave}
 use Rattle.conduct.proofs.Desk.Waiting.{oldest-taken, oldest-first}
 use Rattle.desk.proofs.Sendings.{hear-room, hear-applied}
 use Rattle.conduct.proofs.Desk.Steps.{never}
 use Rattle.conduct.proofs.Desk.Kept.{fits}
+use Rattle.conduct.proofs.Desk.Handled.{sends-t, HandledAs, read, unread, handled-heard}
 
 -- a poll heard, after the first rule
 module _ (d : Desk) (f : Fine d) (at n : ℕ) (out : List ℕ) where
@@ -68,14 +63,9 @@ module _ (d : Desk) (f : Fine d) (at n : ℕ) (out : List ℕ) where
   answers-key true q = rw (eq-eqb (d .queued) 0 q) (none-wait q, none-wait q, (refl, refl))
   answers-key false q = rw (eq-eqb (d .queued) 0 q) (none-wait q, none-wait q, (refl, refl))
 
--- the key position where A carries it, A else
-pub key-carried : (line position : ℕ) → lineOf line .keyed ≡ true → keyOn line position ≡ position
-unfolding keyOn
-key-carried line position h = rw h
-
-pub key-elsewhere : (line position : ℕ) → lineOf line .keyed ≡ false → keyOn line position ≡ code "A"
-unfolding keyOn
-key-elsewhere line position h = rw h
+pub key-by-line : KeyByLine
+unfolding lineOf keyOn
+key-by-line position = refl
 
 -- the first rule leaves the queue as it was
 noted-queue : (d : Desk) (b : Bool) → Same d (notedOf d b)
@@ -103,15 +93,7 @@ ruled-queue d b at (repeat n what) out h = (refl, refl)
 ruled-queue d b at (handle n what) out h = reply-queue d what (λ e. h n (ap (handle n) e))
 
 -- only a frame read as t polls
-module _ (line : ℕ) (good : Bool) (last n : ℕ) where
-  good-poll : (number : ℕ) (what : What) → goodFrame good last number what ≡ handle n poll → (number ≡ n) × (what ≡ poll)
-  unfolding goodFrame
-  good-poll number what e = go (repeats good last number) e
-    where
-      go : (b : Bool) → cond b (repeat number what) (handle number what) ≡ handle n poll → (number ≡ n) × (what ≡ poll)
-      go true e = never (cc)
-      go false e = (cc, cc)
-
+module _ (line : ℕ) (frame : List ℕ) where
   matter-poll : (rec : Record) → matterIn line rec ≡ poll → typeOf rec ≡ code "t"
   unfolding matterIn
   matter-poll rec e = go (byMaster line (typeOf rec)) (eqb (typeOf rec) (code "r")) (eqb (typeOf rec) (code "t")) (eqb-true (typeOf rec) (code "t")) e
@@ -122,34 +104,16 @@ module _ (line : ℕ) (good : Bool) (last n : ℕ) where
       go true false false k e = never (cc)
       go false r t k e = never (cc)
 
-  bad-poll : {A : Type 0} (x : No) (byte : ℕ) → badFrame good last x byte ≡ handle n poll → A
-  unfolding badFrame
-  bad-poll {A} x byte e = go (eqb (x .number) 6) (isNumber byte) (from 8 11 (x .number)) e
-    where
-      go : (a b c : Bool)
-          → cond a (cond b (fault x (numberIn byte)) (silent x)) (cond c (goodFrame good last (numberIn byte) (contents x)) (silent x)) ≡ handle n poll
-          → A
-      go true true c e = never (cc)
-      go true false c e = never (cc)
-      go false b true e = let z = good-poll (numberIn byte) (contents x) e .1 in never (cc)
-      go false b false e = never (cc)
-
-  read-poll : (a : Answer) (byte : ℕ) → ruledBy line good last byte a ≡ handle n poll → (rec : Record) × (a ≡ accepted rec n) × (typeOf rec ≡ code "t")
-  read-poll (accepted rec k) byte e = let q = good-poll k (matterIn line rec) e in (rec, ap (accepted rec) (q .0), matter-poll rec (q .1))
-  read-poll (w.refused x) byte e = bad-poll x byte e
+  heard-poll : (k : ℕ) (what : What) → HandledAs line frame k what → what ≡ poll → (rec : Record) × (readingOf line frame ≡ accepted rec k) × (typeOf rec ≡ code "t")
+  heard-poll k what (read {rec} q) e = (rec, q, matter-poll rec e)
+  heard-poll k what (unread q a b) e = never (cc)
 
 pub polls-by-t : PollsByT
-unfolding rulingIn
-polls-by-t line good last n frame e = read-poll line good last n (readingOf line frame) (getD frame 4 0) e
-
--- the master sends t on each line
-t-sent : (line : ℕ) → isLine line ≡ true → byMaster line (code "t") ≡ true
-unfolding forms onLine lookIn typeRow
-t-sent line h = each-line (λ (l : ℕ). byMaster l (code "t")) refl line h
+polls-by-t line good last n frame e = heard-poll line frame n poll (handled-heard line good last n poll frame e .0) refl
 
 pub t-polls : TPolls
 t-polls line good last l frame rec n r t h =
-    let m = a-poll line rec (code "t") (sym t) (t-sent line l) (λ q. omega arith) refl in
+    let m = a-poll line rec (code "t") (sym t) (sends-t line l) (λ q. omega arith) refl in
     sym (ap (handle n) m ∙ good-handled good last n (matterIn line rec) h ∙ when-accepted line good last frame rec n (sym r))
 
 by-reply : (d : Desk) → Fine d → (at : ℕ) (frame out : List ℕ) → longest ≤ length out → (n : ℕ) (what : What) → ruling (noted d at) frame ≡ handle n what

@@ -28,14 +28,14 @@ use Rattle.desk.specs.Panel.{losesLine, notedOf, withQueued, withRequested, wit
 use Rattle.desk.specs.Queue.{replyTo}
 use Rattle.desk.specs.Hearing.{Hearing, faultedOf, repeatedOf, handledOf, appliedOf, ruling, heardOf, hearOf}
 use Rattle.desk.specs.declared.state.Desk.{Desk}
-use Rattle.conduct.specs.Desk.Calls.{Call, ticks, queues, sets, turns, hears, did, heard, Behind, saying, hearing, after, noted}
+use Rattle.conduct.specs.Desk.Calls.{Call, ticks, queues, sets, turns, hears, did, heard, Result, saying, hearing, after, noted}
 
 -- two answers of different kinds are never equal
 pub never : {A : Type 0} → _≡_ {A = ℕ} 0 1 → A
 never z = let y : ⊥ = omega arith in absurd y
 
 -- what a call can do to a state in its ranges
-pub data Does (d : Desk) : Call → Behind → Type 0 where
+pub data Does (d : Desk) : Call → Result → Type 0 where
   -- refused, but not 15
   barred : {call : Call} {x : No} → ¬ (x .number ≡ 15) → Does d call (d, did (Done.refused x))
   -- under 66 bytes of room
@@ -100,7 +100,7 @@ module _ (d : Desk) (h : inRanges d ≡ true) (key : ℕ) where
       go false l p e = never (cc)
 
 -- refused by a fault or not
-guard : (P : Behind → Type 0) (d : Desk) (step : Desk × Done) (f : Fault) → ((x : No) → f ≡ fails x → P (d, did (Done.refused x))) → (f ≡ good → P (saying step))
+guard : (P : Result → Type 0) (d : Desk) (step : Desk × Done) (f : Fault) → ((x : No) → f ≡ fails x → P (d, did (Done.refused x))) → (f ≡ good → P (saying step))
     → P (saying (faultless f d step))
 guard P d step good a b = b refl
 guard P d step (fails x) a b = a x refl

@@ -34,7 +34,7 @@ use Rattle.desk.specs.Queue.{oldest, replyTo}
 use Rattle.desk.specs.Hearing.{faultedOf, repeatedOf, handledOf, hearOf}
 use Rattle.desk.specs.declared.state.Desk.{Desk}
 use Rattle.desk.proofs.Permitted.{oldest-replies, answer-permitted}
-use Rattle.conduct.specs.Desk.Calls.{Call, hears, heard, Behind, after, run, noted, Fine}
+use Rattle.conduct.specs.Desk.Calls.{Call, hears, heard, Result, after, run, noted, Fine}
 use Rattle.conduct.specs.Desk.Stored.{Holding, StoredTelegram, StoredAsSent}
 use Rattle.conduct.proofs.Desk.Steps.{never, Does, barred, noRoom, ticked, queued, isSet, turned, unmoved, faults, repeats, handled, does}
 use Rattle.conduct.proofs.Desk.Kept.{fits, noted-keeps, replied-keeps, keeps, runs-keep, start-fine, start-line}
@@ -110,7 +110,7 @@ holds-step : (d : Desk) → Fine d → Holds d → (call : Call) → Holds (afte
 unfolding faultedOf repeatedOf
 holds-step d f k call = go call (after d call) (does d (f .ranged) call)
   where
-    go : (call : Call) (turn : Behind) → Does d call turn → Holds (turn .0)
+    go : (call : Call) (turn : Result) → Does d call turn → Holds (turn .0)
     go call turn (barred n) = k
     go call turn noRoom = k
     go call turn (ticked {at}) = noted-holds d (losesLine d at) k
@@ -142,7 +142,7 @@ stored-as-sent d f at frame out noting origin n e =
     go (hears at frame out) (after d (hears at frame out)) (hearOf d at frame out .2) (does d (f .ranged) (hears at frame out))
     (ap (λ (t : Told). heard t (hearOf d at frame out .2)) e)
   where
-    go : (call : Call) (turn : Behind) (new : List ℕ) → Does d call turn → turn .1 ≡ heard (h.handled noting origin n) new → (turn .0 .kept ≡ n) × (storedOf (turn .0) ≡ take n new)
+    go : (call : Call) (turn : Result) (new : List ℕ) → Does d call turn → turn .1 ≡ heard (h.handled noting origin n) new → (turn .0 .kept ≡ n) × (storedOf (turn .0) ≡ take n new)
     go call turn new (barred x) q = never (cc)
     go call turn new noRoom q = never (cc)
     go call turn new ticked q = never (cc)

@@ -3,7 +3,10 @@ use mathlib.Core.Path.{_≡_, refl, sym, ap, _∙_}
 use Rattle.reading.specs.Answers.{Answer, accepted, answerOf}
 use Rattle.reading.specs.Answers as w
 use Rattle.reading.specs.declared.answers.Reading as g
+use Rattle.master.specs.Answers.{Which, offered, again, poll, whichOf, Ground, silence, rejected, groundOf}
 use Rattle.master.specs.Answers.{Why, free, runOut, otherNumber, whyOf, Told, nothing, sent, answered, otherKind, givenUp, ignored, toldOf}
+use Rattle.master.specs.declared.answers.Sending as s
+use Rattle.master.specs.declared.answers.Cause as c
 use Rattle.master.specs.declared.answers.Reason as r
 use Rattle.master.specs.declared.answers.Answer as a
 use Rattle.master.specs.Answers as t
@@ -18,6 +21,26 @@ readingBack (w.refused x) = g.the-variants.Refused (backOf x)
 reading-back : (x : g.Reading) → readingBack (answerOf x) ≡ x
 reading-back (g.the-variants.Accepted rec number) = refl
 reading-back (g.the-variants.Refused x) = ap g.the-variants.Refused (refusal-back x)
+
+-- of a sending
+abbrev sendingBack : Which → s.Sending
+sendingBack offered = s.the-variants.Offered
+sendingBack again = s.the-variants.Again
+sendingBack poll = s.the-variants.Poll
+
+sending-back : (x : s.Sending) → sendingBack (whichOf x) ≡ x
+sending-back s.the-variants.Offered = refl
+sending-back s.the-variants.Again = refl
+sending-back s.the-variants.Poll = refl
+
+-- of a giving up
+abbrev causeBack : Ground → c.Cause
+causeBack silence = c.the-variants.Silence
+causeBack rejected = c.the-variants.Rejected
+
+cause-back : (x : c.Cause) → causeBack (groundOf x) ≡ x
+cause-back c.the-variants.Silence = refl
+cause-back c.the-variants.Rejected = refl
 
 -- of a hearing that is ignored
 abbrev reasonBack : Why → r.Reason
@@ -36,19 +59,19 @@ reason-back r.the-variants.OtherNumber = refl
 abbrev answerBack : Told → a.Answer
 answerBack (t.refused x) = a.the-variants.Refused (backOf x)
 answerBack nothing = a.the-variants.Nothing
-answerBack (sent sending count bytes) = a.the-variants.Sent sending count bytes
+answerBack (sent which count bytes) = a.the-variants.Sent (sendingBack which) count bytes
 answerBack (answered rec count) = a.the-variants.Answered rec count
 answerBack (otherKind reading count) = a.the-variants.OtherKind (readingBack reading) count
-answerBack (givenUp cause count) = a.the-variants.GivenUp cause count
+answerBack (givenUp ground count) = a.the-variants.GivenUp (causeBack ground) count
 answerBack (ignored why) = a.the-variants.Ignored (reasonBack why)
 
 answer-back : (x : a.Answer) → answerBack (toldOf x) ≡ x
 answer-back (a.the-variants.Refused x) = ap a.the-variants.Refused (refusal-back x)
 answer-back a.the-variants.Nothing = refl
-answer-back (a.the-variants.Sent sending count bytes) = refl
+answer-back (a.the-variants.Sent sending count bytes) = rw (sending-back sending)
 answer-back (a.the-variants.Answered rec count) = refl
 answer-back (a.the-variants.OtherKind reading count) = rw (reading-back reading)
-answer-back (a.the-variants.GivenUp cause count) = refl
+answer-back (a.the-variants.GivenUp cause count) = rw (cause-back cause)
 answer-back (a.the-variants.Ignored why) = rw (reason-back why)
 
 pub one-answer : OneAnswer

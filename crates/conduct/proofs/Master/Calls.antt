@@ -21,16 +21,13 @@ use Rattle.judging.specs.Rules.{pollOf, isFailure, permittedAnswer}
 use Rattle.judging.specs.Judging.{Judged, answeredBy, takenOf, unlessBad, judgeOf}
 use Rattle.judging.specs.Judging as j
 use Rattle.master.specs.declared.state.Master.{Master}
-use Rattle.master.specs.declared.answers.Sending.{Sending}
-use Rattle.master.specs.declared.answers.Sending.the-variants.{Offered, Again, Poll}
-use Rattle.master.specs.declared.answers.Cause.{Cause}
-use Rattle.master.specs.declared.answers.Cause.the-variants.{Silence, Rejected}
+use Rattle.master.specs.Answers.{Which, again, poll, Ground, silence, rejected}
 use Rattle.master.specs.State.{isFree, sendable, inRanges, callFault, withLine, answeredState, givenUpState}
 use Rattle.master.specs.Sending.{Behind, t0Limit, t2Limit, unlessRefused, sendingOf, failedOf, offerFault, offerOf, pollingOf, waitingOf, tickOf}
 use Rattle.master.specs.Hearing.{settledOf, judged, hearOf}
 use Rattle.master.proofs.Ranges.{passed, lined, sendable-both, poll-sendable}
 use Rattle.master.proofs.Sends.{offer-passed}
-use Rattle.conduct.specs.Master.Calls.{Call, offers, ticks, hears, outputOf, after, First, offered, polled, lineAfter}
+use Rattle.conduct.specs.Master.Calls.{Call, offers, ticks, hears, outputOf, after, FirstSending, offered, polled, lineAfter}
 use Rattle.reading.specs.Answers as w
 use Rattle.master.specs.Answers as t
 
@@ -88,13 +85,13 @@ module _ (line number sent : ℕ) (frame : List ℕ) where
 -- what a call can do to a state in its ranges
 pub data Does (m : Master) (call : Call) : Behind → Type 0 where
   stays : (told : t.Told) → Quiet told → Does m call (m, (told, outputOf call))
-  begins : (sending : Sending) (rec : Record) (at : ℕ) → First m call sending rec → isFree m ≡ true → sendable (m .line) rec ≡ true → longest ≤ length (outputOf call)
-      → Does m call (sendingOf sending m rec 1 at (outputOf call))
+  begins : (which : Which) (rec : Record) (at : ℕ) → FirstSending m call which rec → isFree m ≡ true → sendable (m .line) rec ≡ true → longest ≤ length (outputOf call)
+      → Does m call (sendingOf which m rec 1 at (outputOf call))
   repeats : (g : Bool) (at : ℕ) → isFree m ≡ false → ¬ (m .count ≡ 3) → longest ≤ length (outputOf call)
-      → Does m call (sendingOf Again (withLine m g) (m .rec) (m .count + 1) at (outputOf call))
+      → Does m call (sendingOf again (withLine m g) (m .rec) (m .count + 1) at (outputOf call))
   ends : (told : t.Told) → Ends (m .count) told → isFree m ≡ false → Brings m call → Does m call (answeredState (withLine m true), (told, outputOf call))
-  givesUp : (cause : Cause) → isFree m ≡ false → m .count ≡ 3
-      → Does m call (givenUpState (withLine m (lineAfter cause)), (t.givenUp cause (m .count), outputOf call))
+  givesUp : (ground : Ground) → isFree m ≡ false → m .count ≡ 3
+      → Does m call (givenUpState (withLine m (lineAfter ground)), (t.givenUp ground (m .count), outputOf call))
 
 -- a test's two ways
 split : (P : Behind → Type 0) (b : Bool) {x y : Behind} → (b ≡ true → P x) → (b ≡ false → P y) → P (cond b x y)
@@ -134,18 +131,18 @@ offer-number m rec x e = go (isFree m) (byMaster (m .line) (typeOf rec)) (permit
 
 module _ (m : Master) (h : inRanges m ≡ true) where
   -- a failed sending, for either cause
-  fails : (call : Call) (cause : Cause) (g : Bool) (at : ℕ) → isFree m ≡ false → longest ≤ length (outputOf call) → Does m call (failedOf cause (lineAfter cause) (withLine m g) at (outputOf call))
+  fails : (call : Call) (ground : Ground) (g : Bool) (at : ℕ) → isFree m ≡ false → longest ≤ length (outputOf call) → Does m call (failedOf ground (lineAfter ground) (withLine m g) at (outputOf call))
   unfolding failedOf
-  fails call cause g at f r =
+  fails call ground g at f r =
       split (Does m call) (eqb (m .count) 3)
-      (λ e. givesUp cause f (eqb-true (m .count) 3 e))
+      (λ e. givesUp ground f (eqb-true (m .count) 3 e))
       (λ e. repeats g at f (eqb-false (m .count) 3 e) r)
 
   -- what a heard frame is, and what it makes of the state
   settles : (call : Call) (at : ℕ) (judged : Judged) → (Ending judged → Brings m call) → isFree m ≡ false → longest ≤ length (outputOf call) → Does m call (settledOf m at judged (outputOf call))
   settles call at (j.refused x) b f r = stays (t.ignored (t.Why.refused x)) unheard
   settles call at j.otherNumber b f r = stays (t.ignored t.otherNumber) unheard
-  settles call at j.failed b f r = fails call Rejected true at f r
+  settles call at j.failed b f r = fails call rejected true at f r
   settles call at (j.answered rec) b f r = ends (t.answered rec (m .count)) permitted f (b tt)
   settles call at (j.otherKind answer) b f r = ends (t.otherKind answer (m .count)) strange f (b tt)
 
@@ -160,17 +157,17 @@ module _ (m : Master) (h : inRanges m ≡ true) where
   unfolding offerOf tickOf pollingOf waitingOf hearOf
   does (offers at rec out) =
       checks (offers at rec out) _ (λ r.
-      guard (Does m (offers at rec out)) m out (sendingOf Offered m rec 1 at out) (offerFault m rec)
+      guard (Does m (offers at rec out)) m out (sendingOf t.offered m rec 1 at out) (offerFault m rec)
       (λ x e. stays (t.Told.refused x) (barred (offer-number m rec x e)))
-      (λ e. let o = offer-passed m rec (sym e) in begins Offered rec at offered (o .0) (sendable-both (m .line) rec (o .1 .0) (o .1 .1)) r))
+      (λ e. let o = offer-passed m rec (sym e) in begins t.offered rec at offered (o .0) (sendable-both (m .line) rec (o .1 .0) (o .1 .1)) r))
   does (ticks at out) =
       checks (ticks at out) _ (λ r.
       split (Does m (ticks at out)) (isFree m)
       (λ f. split (Does m (ticks at out)) (runOut at (m .t0) (t0Limit m))
-      (λ e. begins Poll (pollOf (m .line)) at polled f (poll-sendable (m .line) (lined m h)) r)
+      (λ e. begins poll (pollOf (m .line)) at polled f (poll-sendable (m .line) (lined m h)) r)
       (λ e. stays t.nothing idle))
       (λ f. split (Does m (ticks at out)) (runOut at (m .t2) t2Limit)
-      (λ e. fails (ticks at out) Silence (m .good) at f r)
+      (λ e. fails (ticks at out) silence (m .good) at f r)
       (λ e. stays t.nothing idle)))
   does (hears at frame out) =
       checks (hears at frame out) _ (λ r.

@@ -2,19 +2,16 @@
 use mathlib.Core.Path.{_≡_, refl, sym}
 use mathlib.Core.Bool.{true, false}
 use mathlib.Core.List.{List, [], _∷_}
-use Prim.Native.Nat.{ℕ, _+_, _≤_}
+use Prim.Native.Nat.{ℕ, _≤_}
 use native.Mathlib.Omega.{arith}
 use borrow.Author.Tests.{eqb-false}
 use Rattle.laws.proofs.Truths.{clash}
-use Rattle.forms.specs.Lines.{isLine}
 use Rattle.master.specs.declared.state.Master.{Master}
-use Rattle.master.specs.declared.answers.Sending.{Sending}
-use Rattle.master.specs.declared.answers.Sending.the-variants.{Offered, Again, Poll}
-use Rattle.master.specs.Answers.{Told, refused, nothing, sent, answered, otherKind, givenUp, ignored}
+use Rattle.master.specs.Answers.{Which, Told}
 use Rattle.master.specs.State.{isFree, inRanges, started}
 use Rattle.master.specs.Sending.{Behind, sendingOf}
 use Rattle.master.proofs.Ranges.{counted}
-use Rattle.conduct.specs.Master.Calls.{Call, after, First, offered, polled}
+use Rattle.conduct.specs.Master.Calls.{Call, after, FirstSending, offered, polled}
 use Rattle.conduct.specs.Master.Counts.{oneMore, tally, Reports, Counted, CountMade}
 use Rattle.conduct.proofs.Master.Calls.{Quiet, barred, idle, unheard, Ends, permitted, strange, Does, stays, begins, repeats, ends, givesUp, does}
 use Rattle.conduct.proofs.Master.Kept.{keeps, start-ranged}
@@ -36,17 +33,17 @@ module _ (m : Master) (h : inRanges m ≡ true) (n : ℕ) (k : Holds n m) where
   over told f permitted = (k f, within f)
   over told f strange = (k f, within f)
 
-  begun : (call : Call) (sending : Sending) {rec : _} → First m call sending rec → oneMore n sending ≡ 1
-  begun call sending offered = refl
-  begun call sending polled = refl
+  begun : (call : Call) (which : Which) {rec : _} → FirstSending m call which rec → oneMore n which ≡ 1
+  begun call which offered = refl
+  begun call which polled = refl
 
   step : (call : Call) (turn : Behind) → Does m call turn → Reports (turn .1 .0) (tally n (turn .1 .0)) × Holds (tally n (turn .1 .0)) (turn .0)
   unfolding sendingOf
   step call turn (stays told q) = quiet told q
-  step call turn (begins sending rec at f free s r) = let e = begun call sending f in ((sym e, (omega arith, omega arith)), λ _. sym e)
+  step call turn (begins which rec at f free s r) = let e = begun call which f in ((sym e, (omega arith, omega arith)), λ _. sym e)
   step call turn (repeats g at f x r) = let w = within f in let e = k f in ((omega arith, (omega arith, omega arith)), λ _. omega arith)
   step call turn (ends told e f b) = (over told f e, λ q. clash (sym q))
-  step call turn (givesUp cause f c) = ((k f, within f), λ q. clash (sym q))
+  step call turn (givesUp ground f c) = ((k f, within f), λ q. clash (sym q))
 
 counts : (n : ℕ) (m : Master) → inRanges m ≡ true → Holds n m → (calls : List Call) → Counted n m calls
 counts n m h k [] = tt

@@ -1,15 +1,12 @@
 -- How a telegram ends: given up, or by an answer of another kind (01 'Link rules', 'Readings that look right'). Assumes nothing.
 use mathlib.Core.Path.{_≡_, refl, ap}
-use mathlib.Core.Bool.{Bool, true}
+use mathlib.Core.Bool.{true}
 use Prim.Native.Nat.{ℕ}
 use native.Mathlib.Omega.{arith}
 use Rattle.clock.specs.Counters.{changedOf}
-use Rattle.master.specs.declared.state.Master.{Master}
-use Rattle.master.specs.declared.answers.Cause.{Cause}
 use Rattle.master.specs.Answers.{Told, otherKind, givenUp}
-use Rattle.master.specs.State.{isFree, inRanges}
 use Rattle.master.specs.Sending.{Behind, sendingOf}
-use Rattle.conduct.specs.Master.Calls.{Call, after, lineAfter}
+use Rattle.conduct.specs.Master.Calls.{after, lineAfter}
 use Rattle.conduct.specs.Master.Ended.{Freed, AfterGivingUp, AfterOtherKind}
 use Rattle.conduct.proofs.Master.Calls.{Quiet, barred, idle, unheard, Ends, permitted, strange, Does, stays, begins, repeats, ends, givesUp, does}
 
@@ -19,24 +16,24 @@ never z = let y : ⊥ = omega arith in absurd y
 
 pub after-giving-up : AfterGivingUp
 unfolding sendingOf
-after-giving-up m h call cause n e = go (after m call) (does m h call) e
+after-giving-up m h call ground n e = go (after m call) (does m h call) e
   where
-    quiet : {A : Type 0} (told : Told) → Quiet told → told ≡ givenUp cause n → A
+    quiet : {A : Type 0} (told : Told) → Quiet told → told ≡ givenUp ground n → A
     quiet told (barred x) q = never (cc)
     quiet told idle q = never (cc)
     quiet told unheard q = never (cc)
 
-    over : {A : Type 0} (told : Told) → Ends (m .count) told → told ≡ givenUp cause n → A
+    over : {A : Type 0} (told : Told) → Ends (m .count) told → told ≡ givenUp ground n → A
     over told permitted q = never (cc)
     over told strange q = never (cc)
 
-    go : (turn : Behind) → Does m call turn → turn .1 .0 ≡ givenUp cause n → (n ≡ 3) × Freed (turn .0) 0 (lineAfter cause)
+    go : (turn : Behind) → Does m call turn → turn .1 .0 ≡ givenUp ground n → (n ≡ 3) × Freed (turn .0) 0 (lineAfter ground)
     go turn (stays told x) q = quiet told x q
-    go turn (begins sending rec at f free s r) q = never (cc)
+    go turn (begins which rec at f free s r) q = never (cc)
     go turn (repeats g at f x r) q = never (cc)
     go turn (ends told x f b) q = over told x q
     go turn (givesUp why f c) q =
-        let x : why ≡ cause = cc in
+        let x : why ≡ ground = cc in
         let y : m .count ≡ n = cc in
         (omega arith, record { free = refl; numbered = refl; line = ap lineAfter x })
 
@@ -51,7 +48,7 @@ after-other-kind m h call answer n e = go (after m call) (does m h call) e
 
     go : (turn : Behind) → Does m call turn → turn .1 .0 ≡ otherKind answer n → Freed (turn .0) (changedOf (m .number .0)) true
     go turn (stays told x) q = quiet told x q
-    go turn (begins sending rec at f free s r) q = never (cc)
+    go turn (begins which rec at f free s r) q = never (cc)
     go turn (repeats g at f x r) q = never (cc)
     go turn (ends told x f b) q = record { free = refl; numbered = refl; line = refl }
-    go turn (givesUp cause f c) q = never (cc)
+    go turn (givesUp ground f c) q = never (cc)

@@ -54,11 +54,11 @@ keeps m h call = go (after m call) (does m h call)
   where
     go : (turn : Behind) → Does m call turn → inRanges (turn .0) ≡ true
     go turn (stays told q) = h
-    go turn (begins sending rec at f free s r) = busy-ranged (turn .0) (lined m h) (numbered m h) (omega arith) s
+    go turn (begins which rec at f free s r) = busy-ranged (turn .0) (lined m h) (numbered m h) (omega arith) s
     go turn (repeats g at f n r) =
         busy-ranged (turn .0) (lined m h) (numbered m h) (omega (arith, counted m h f)) (sends m h f)
     go turn (ends told e f b) = free-ranged (turn .0) (lined m h) (changed-small (m .number .0)) refl
-    go turn (givesUp cause f c) = free-ranged (turn .0) (lined m h) (omega arith) refl
+    go turn (givesUp ground f c) = free-ranged (turn .0) (lined m h) (omega arith) refl
 
 -- under any calls the state is in its ranges
 pub stays-ranged : (m : Master) → inRanges m ≡ true → (calls : List Call) → inRanges (run m calls) ≡ true
@@ -81,10 +81,10 @@ not-15 m h call x e = go (after m call) (does m h call) e
 
     go : (turn : Behind) → Does m call turn → turn .1 .0 ≡ refused x → ¬ (x .number ≡ 15)
     go turn (stays told n) q = quiet told n q
-    go turn (begins sending rec at f free s r) q = clash (cc)
+    go turn (begins which rec at f free s r) q = clash (cc)
     go turn (repeats g at f n r) q = clash (cc)
     go turn (ends told n f b) q = over (m .count) told n q
-    go turn (givesUp cause f c) q = clash (cc)
+    go turn (givesUp ground f c) q = clash (cc)
 
 pub never-15 : Never15
 never-15 line at h calls call =

@@ -6,17 +6,14 @@ use Prim.Native.Nat.{ℕ, _+_}
 use lib.ListN.{length, take, drop}
 use lib.Seq.{take-at, drop-at}
 use Rattle.laws.proofs.Truths.{clash}
-use Rattle.forms.specs.Lines.{isLine}
 use Rattle.records.specs.declared.records.Record.{Record}
 use Rattle.writing.specs.Writing.{telegramOf, sentOf}
 use Rattle.master.specs.declared.state.Master.{Master}
-use Rattle.master.specs.declared.answers.Sending.{Sending}
-use Rattle.master.specs.declared.answers.Sending.the-variants.{Again}
-use Rattle.master.specs.Answers.{Told, refused, nothing, sent, answered, otherKind, givenUp, ignored}
+use Rattle.master.specs.Answers.{Which, again, Told}
 use Rattle.master.specs.State.{isFree, inRanges, withLine, started}
 use Rattle.master.specs.Sending.{Behind, sendingOf}
-use Rattle.conduct.specs.Master.Calls.{Call, outputOf, after, First}
-use Rattle.conduct.specs.Master.Same.{Right, first, same, Leaves, lastSent, Sent, SameBytes}
+use Rattle.conduct.specs.Master.Calls.{Call, outputOf, after}
+use Rattle.conduct.specs.Master.Same.{first, same, Leaves, lastSent, Sent, SameBytes}
 use Rattle.conduct.proofs.Master.Calls.{Quiet, barred, idle, unheard, Ends, permitted, strange, Does, stays, begins, repeats, ends, givesUp, does}
 use Rattle.conduct.proofs.Master.Kept.{keeps, start-ranged}
 
@@ -25,15 +22,15 @@ abbrev Holds : List ℕ → Master → Type 0
 Holds held m = isFree m ≡ false → held ≡ telegramOf (m .line) (m .rec) (m .number .0)
 
 -- the front of what a sending leaves, and the bytes behind it
-module _ (sending : Sending) (m : Master) (rec : Record) (count at : ℕ) (out : List ℕ) where
+module _ (which : Which) (m : Master) (rec : Record) (count at : ℕ) (out : List ℕ) where
   abbrev bytes : List ℕ
   bytes = telegramOf (m .line) rec (m .number .0)
 
-  pub front : take (length bytes) (sendingOf sending m rec count at out .1 .1) ≡ bytes
+  pub front : take (length bytes) (sendingOf which m rec count at out .1 .1) ≡ bytes
   unfolding sendingOf sentOf
   front = take-at bytes (drop (length bytes) out) (length bytes) refl
 
-  behind : drop (length bytes) (sendingOf sending m rec count at out .1 .1) ≡ drop (length bytes) out
+  behind : drop (length bytes) (sendingOf which m rec count at out .1 .1) ≡ drop (length bytes) out
   unfolding sendingOf sentOf
   behind = drop-at bytes (drop (length bytes) out) (length bytes) refl
 
@@ -54,14 +51,14 @@ module _ (m : Master) (held : List ℕ) (k : Holds held m) (call : Call) where
   step : (turn : Behind) → Does m call turn → Step turn
   unfolding sendingOf sentOf
   step turn (stays told q) = quiet told q
-  step turn (begins sending rec at f free s r) =
-      let e = front sending m rec 1 at (outputOf call) in
-      ((first f e, behind sending m rec 1 at (outputOf call)), λ _. e)
+  step turn (begins which rec at f free s r) =
+      let e = front which m rec 1 at (outputOf call) in
+      ((first f e, behind which m rec 1 at (outputOf call)), λ _. e)
   step turn (repeats g at f x r) =
-      let e = front Again (withLine m g) (m .rec) (m .count + 1) at (outputOf call) in
-      ((same refl (e ∙ sym (k f)), behind Again (withLine m g) (m .rec) (m .count + 1) at (outputOf call)), λ _. e)
+      let e = front again (withLine m g) (m .rec) (m .count + 1) at (outputOf call) in
+      ((same refl (e ∙ sym (k f)), behind again (withLine m g) (m .rec) (m .count + 1) at (outputOf call)), λ _. e)
   step turn (ends told e f b) = over told (turn .0) refl e
-  step turn (givesUp cause f c) = (refl, λ q. clash (sym q))
+  step turn (givesUp ground f c) = (refl, λ q. clash (sym q))
 
 all-sent : (held : List ℕ) (m : Master) → inRanges m ≡ true → Holds held m → (calls : List Call) → Sent held m calls
 all-sent held m h k [] = tt

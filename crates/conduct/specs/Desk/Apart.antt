@@ -1,11 +1,11 @@
 -- The paper's numbers and values tell the desk's answers apart, so that a promise through them allows one answer only (01 'What the promises say'). Assumes nothing.
 use mathlib.Core.Path.{_≡_}
-use Rattle.desk.specs.Answers.{outcomeOf, toldOf}
+use Rattle.desk.specs.Answers.{doneOf, toldOf}
 use Rattle.desk.specs.declared.answers.Outcome.{Outcome}
 use Rattle.desk.specs.declared.answers.Heard.{Heard}
 
 abbrev pub OneOutcome : Type 0
-OneOutcome = (a b : Outcome) → outcomeOf a ≡ outcomeOf b → a ≡ b
+OneOutcome = (a b : Outcome) → doneOf a ≡ doneOf b → a ≡ b
 
 abbrev pub OneHeard : Type 0
 OneHeard = (a b : Heard) → toldOf a ≡ toldOf b → a ≡ b

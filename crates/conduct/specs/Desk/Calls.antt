@@ -27,17 +27,17 @@ pub data Answered : Type 0 where
   heard : Told → List ℕ → Answered
 
 -- the state behind a call, and what it answers
-abbrev pub Behind : Type 0
-Behind = Desk × Answered
+abbrev pub Result : Type 0
+Result = Desk × Answered
 
-abbrev pub saying : Desk × Done → Behind
+abbrev pub saying : Desk × Done → Result
 saying s = (s .0, did (s .1))
 
-abbrev pub hearing : Hearing → Behind
+abbrev pub hearing : Hearing → Result
 hearing h = (h .0, heard (h .1) (h .2))
 
 -- what a call makes of the state
-abbrev pub after : Desk → Call → Behind
+abbrev pub after : Desk → Call → Result
 after d (ticks at) = saying (tickOf d at)
 after d (queues rec) = saying (queueOf d rec)
 after d (sets rec) = saying (setOf d rec)

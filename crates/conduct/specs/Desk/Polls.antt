@@ -1,11 +1,11 @@
 -- A handled t takes exactly the oldest queued record, and no other hearing takes one (01 'Link rules', 'Desk'). Assumes nothing.
 use mathlib.Core.Path.{_≡_}
 use mathlib.Core.Bool.{Bool, true, false}
-use mathlib.Core.List.{List, [], _∷_, _++_}
+use mathlib.Core.List.{List, [], _∷_, _++_, map}
 use Prim.Native.Nat.{ℕ, _≤_}
 use Prim.Native.Char.{code}
 use lib.ListN.{length, getD, take, drop}
-use Rattle.forms.specs.Lines.{isLine}
+use Rattle.forms.specs.Lines.{lineNumbers, isLine}
 use Rattle.records.specs.Records.{typeOf}
 use Rattle.records.specs.declared.records.Record.{Record}
 use Rattle.records.specs.declared.records.Record.the-variants.{Approved}
@@ -63,6 +63,10 @@ PollEmpty =
     → (waiting d ≡ [])
     × (waiting (hearOf d at frame out .0) ≡ [])
     × Answers (d .line) (Approved (keyOn (d .line) (d .key))) n (losesLine d at) (key (keyOn (d .line) (d .key))) out (hearOf d at frame out)
+
+-- that is what A carries on lines 1, 2 and 3
+abbrev pub KeyByLine : Type 0
+KeyByLine = (position : ℕ) → map (λ (line : ℕ). keyOn line position) lineNumbers ≡ code "A" ∷ code "A" ∷ position ∷ []
 
 -- any other hearing leaves the queue as it was: a telegram of another type, a repeat, a silent one
 abbrev pub OthersLeave : Type 0

@@ -1,8 +1,9 @@
--- T1 at 27,999 keeps the line good, at 28,000 the line is lost, whatever the clock read at its start (01 'Link rules', 'Bench cases'). Assumes nothing.
+-- Under 28,000 milliseconds after T1's start the line stays good, from there on it is lost: in every state and at every reading of the
+-- clock (01 'Link rules', 'Bench cases'). Assumes nothing.
 use mathlib.Core.Path.{_≡_}
 use mathlib.Core.Bool.{true, false}
 use mathlib.Core.List.{List}
-use Prim.Native.Nat.{ℕ, _+_, _%_, _^_, _<_}
+use Prim.Native.Nat.{ℕ, _^_, _≤_, _<_}
 use Rattle.records.specs.declared.records.Record.{Record}
 use Rattle.reading.specs.Answers.{accepted}
 use Rattle.reading.specs.Reading.{readingOf}
@@ -11,28 +12,56 @@ use Rattle.desk.specs.Answers.{done, lost}
 use Rattle.desk.specs.Panel.{withGood, tickOf}
 use Rattle.desk.specs.Hearing.{ruling}
 use Rattle.desk.specs.declared.state.Desk.{Desk}
+use Rattle.conduct.specs.Times.{clockAfter}
 use Rattle.conduct.specs.Desk.Calls.{Fine, noted}
 
--- so many milliseconds behind T1's start
-abbrev pub later : Desk → ℕ → ℕ
-later d n = (d .t1 + n) % 2 ^ 32
+-- on a good line a tick so long after T1's start changes nothing
+abbrev pub TickKeeps : ℕ → Type 0
+TickKeeps ms = (d : Desk) → Fine d → d .good ≡ true → d .t1 < 2 ^ 32 → tickOf d (clockAfter (d .t1) ms) ≡ (d, done)
 
--- a tick at 27,999 changes nothing
+-- or it notes the line lost, and changes nothing else
+abbrev pub TickLoses : ℕ → Type 0
+TickLoses ms = (d : Desk) → Fine d → d .good ≡ true → d .t1 < 2 ^ 32 → tickOf d (clockAfter (d .t1) ms) ≡ (withGood d false, lost)
+
+-- a telegram with the last number taken, heard so long after it, is a repeat
+abbrev pub HearRepeats : ℕ → Type 0
+HearRepeats ms =
+    (d : Desk) → Fine d → d .good ≡ true → d .t1 < 2 ^ 32 → (frame : List ℕ) (rec : Record) → readingOf (d .line) frame ≡ accepted rec (d .last .0)
+    → ruling (noted d (clockAfter (d .t1) ms)) frame ≡ repeat (d .last .0) (matterIn (d .line) rec)
+
+-- or it is handled anew
+abbrev pub HearHandles : ℕ → Type 0
+HearHandles ms =
+    (d : Desk) → Fine d → d .good ≡ true → d .t1 < 2 ^ 32 → (frame : List ℕ) (rec : Record) → readingOf (d .line) frame ≡ accepted rec (d .last .0)
+    → ruling (noted d (clockAfter (d .t1) ms)) frame ≡ handle (d .last .0) (matterIn (d .line) rec)
+
+-- before T1 has run out
+abbrev pub TicksBeforeT1 : Type 0
+TicksBeforeT1 = (ms : ℕ) → ms < 28000 → TickKeeps ms
+
+abbrev pub HearsBeforeT1 : Type 0
+HearsBeforeT1 = (ms : ℕ) → ms < 28000 → HearRepeats ms
+
+-- from then on
+abbrev pub TicksFromT1 : Type 0
+TicksFromT1 = (ms : ℕ) → 28000 ≤ ms → ms < 2 ^ 32 → TickLoses ms
+
+abbrev pub HearsFromT1 : Type 0
+HearsFromT1 = (ms : ℕ) → 28000 ≤ ms → ms < 2 ^ 32 → HearHandles ms
+
+-- a tick on a lost line changes nothing, at any time
+abbrev pub TicksLost : Type 0
+TicksLost = (d : Desk) → Fine d → d .good ≡ false → (at : ℕ) → tickOf d at ≡ (d, done)
+
+-- the bench cases
 abbrev pub TicksAt27999 : Type 0
-TicksAt27999 = (d : Desk) → Fine d → d .good ≡ true → d .t1 < 2 ^ 32 → tickOf d (later d 27999) ≡ (d, done)
+TicksAt27999 = TickKeeps 27999
 
--- a tick at 28,000 notes the line lost, and changes nothing else
 abbrev pub TicksAt28000 : Type 0
-TicksAt28000 = (d : Desk) → Fine d → d .good ≡ true → d .t1 < 2 ^ 32 → tickOf d (later d 28000) ≡ (withGood d false, lost)
+TicksAt28000 = TickLoses 28000
 
--- a telegram with the last number taken, heard at 27,999, is a repeat
 abbrev pub HearsAt27999 : Type 0
-HearsAt27999 =
-    (d : Desk) → Fine d → d .good ≡ true → d .t1 < 2 ^ 32 → (frame : List ℕ) (rec : Record) → readingOf (d .line) frame ≡ accepted rec (d .last .0)
-    → ruling (noted d (later d 27999)) frame ≡ repeat (d .last .0) (matterIn (d .line) rec)
+HearsAt27999 = HearRepeats 27999
 
--- heard at 28,000 it is handled anew
 abbrev pub HearsAt28000 : Type 0
-HearsAt28000 =
-    (d : Desk) → Fine d → d .good ≡ true → d .t1 < 2 ^ 32 → (frame : List ℕ) (rec : Record) → readingOf (d .line) frame ≡ accepted rec (d .last .0)
-    → ruling (noted d (later d 28000)) frame ≡ handle (d .last .0) (matterIn (d .line) rec)
+HearsAt28000 = HearHandles 28000

@@ -5,10 +5,8 @@ use Prim.Native.Nat.{ℕ}
 use Rattle.records.specs.declared.records.Record.{Record}
 use Rattle.judging.specs.Rules.{pollOf}
 use Rattle.master.specs.declared.state.Master.{Master}
-use Rattle.master.specs.declared.answers.Sending.{Sending}
-use Rattle.master.specs.declared.answers.Sending.the-variants.{Offered, Poll}
-use Rattle.master.specs.declared.answers.Cause.{Cause}
-use Rattle.master.specs.declared.answers.Cause.the-variants.{Silence, Rejected}
+use Rattle.master.specs.Answers.{Which, poll, Ground, silence, rejected}
+use Rattle.master.specs.Answers as t
 use Rattle.master.specs.Sending.{Behind, offerOf, tickOf}
 use Rattle.master.specs.Hearing.{hearOf}
 
@@ -35,11 +33,11 @@ run m [] = m
 run m (call ∷ calls) = run (after m call .0) calls
 
 -- the first sending of a telegram: of the offered record, or of the poll
-pub data First (m : Master) : Call → Sending → Record → Type 0 where
-  offered : {at : ℕ} {rec : Record} {out : List ℕ} → First m (offers at rec out) Offered rec
-  polled : {at : ℕ} {out : List ℕ} → First m (ticks at out) Poll (pollOf (m .line))
+pub data FirstSending (m : Master) : Call → Which → Record → Type 0 where
+  offered : {at : ℕ} {rec : Record} {out : List ℕ} → FirstSending m (offers at rec out) t.offered rec
+  polled : {at : ℕ} {out : List ℕ} → FirstSending m (ticks at out) poll (pollOf (m .line))
 
 -- giving up by silence notes the line lost; by N it stays good
-abbrev pub lineAfter : Cause → Bool
-lineAfter Silence = false
-lineAfter Rejected = true
+abbrev pub lineAfter : Ground → Bool
+lineAfter silence = false
+lineAfter rejected = true

@@ -5,8 +5,7 @@ use Prim.Native.Nat.{ℕ}
 use Rattle.clock.specs.Counters.{changedOf}
 use Rattle.reading.specs.Answers.{Answer}
 use Rattle.master.specs.declared.state.Master.{Master}
-use Rattle.master.specs.declared.answers.Cause.{Cause}
-use Rattle.master.specs.Answers.{otherKind, givenUp}
+use Rattle.master.specs.Answers.{Ground, otherKind, givenUp}
 use Rattle.master.specs.State.{isFree, inRanges}
 use Rattle.conduct.specs.Master.Calls.{Call, after, lineAfter}
 
@@ -19,8 +18,8 @@ pub record Freed (m : Master) (number : ℕ) (g : Bool) : Type 0 where
 -- after a giving up the master is free with number 0, three sendings were made, and the line is lost by silence and good by N
 abbrev pub AfterGivingUp : Type 0
 AfterGivingUp =
-    (m : Master) → inRanges m ≡ true → (call : Call) (cause : Cause) (n : ℕ) → after m call .1 .0 ≡ givenUp cause n
-    → (n ≡ 3) × Freed (after m call .0) 0 (lineAfter cause)
+    (m : Master) → inRanges m ≡ true → (call : Call) (ground : Ground) (n : ℕ) → after m call .1 .0 ≡ givenUp ground n
+    → (n ≡ 3) × Freed (after m call .0) 0 (lineAfter ground)
 
 -- an answer of another kind ends the telegram: the master is free, the number changes and the line is good
 abbrev pub AfterOtherKind : Type 0

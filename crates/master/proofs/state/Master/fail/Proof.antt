@@ -3,7 +3,8 @@ use mathlib.Core.Path.{_∙_}
 use denote.Ref.{now}
 use native.Mathlib.Omega.{arith}
 use Rattle.master.proofs.Ranges.{numbered, counted, sends, sendable-permits}
-use Rattle.master.proofs.Sends.{gave-up, again}
+use Rattle.master.specs.Answers.{groundOf}
+use Rattle.master.proofs.Sends.{gave-up, sent-again}
 use borrow.Author.Needs.{needs}
 use Rattle.master.proofs.state.Master.fail.Statement.{statement}
 use Rattle.master.proofs.state.Master.fail.Tie as tie
@@ -14,7 +15,7 @@ given-up-requires c κs = search needs
 returns : tie.Need-returns
 returns c =
     let a = c .before .before .before .args in
-    gave-up (a .cause) (a .good) (a .self) (a .at) (now (a .out)) (c .before .if1 .taken) (c .given-up .result) (c .given-up .ensures)
+    gave-up (groundOf (a .cause)) (a .good) (a .self) (a .at) (now (a .out)) (c .before .if1 .taken) (c .given-up .result) (c .given-up .ensures)
 
 add-send : tie.Need-add-send
 add-send c = omega (arith, counted (c .before .before .args .self) (c .before .before .pre .0) (c .before .before .pre .1 .0))
@@ -33,7 +34,7 @@ returns-2 : tie.Need-returns-2
 returns-2 c =
     let a = c .before .before .before .before .before .before .args in
     let if1 = c .before .before .before .before .if1 in
-    c .before .before .send .ensures ∙ again (a .cause) (a .good) (a .self) (a .at) (now (a .out)) (if1 .left)
+    c .before .before .send .ensures ∙ sent-again (groundOf (a .cause)) (a .good) (a .self) (a .at) (now (a .out)) (if1 .left)
 
 pub fail-spec : {M : Type 1} → statement M
 fail-spec =

@@ -1,7 +1,7 @@
 -- `master::state::Master::offer_check` checks 16, 12 and 13 as its definition does. Assumes nothing.
 use mathlib.Core.Path.{sym, _∙_}
 use Rattle.laws.proofs.Truths.{not-true, not-false}
-use Rattle.master.proofs.Sends.{not-free, not-sent, not-permitted, offered}
+use Rattle.master.proofs.Sends.{not-free, not-sent, not-permitted, may-offer}
 use borrow.Author.Needs.{needs}
 use Rattle.master.proofs.state.Master.offer_check.Statement.{statement}
 use Rattle.master.proofs.state.Master.offer_check.Tie as tie
@@ -40,7 +40,7 @@ returns-4 c =
     let if1 = c .before .before .before .before .before .if1 in
     let type-of = c .before .before .before .before .type-of in
     let by-master = c .before .before .before .by-master in
-    offered (a .self) (a .rec) (if1 .left) (type-of .result) (type-of .ensures) (sym (by-master .ensures) ∙ not-false _ (c .before .before .if2 .left))
+    may-offer (a .self) (a .rec) (if1 .left) (type-of .result) (type-of .ensures) (sym (by-master .ensures) ∙ not-false _ (c .before .before .if2 .left))
     (sym (c .before .permits-record .ensures) ∙ not-false _ (c .if3 .left))
 
 pub offer-check-spec : {M : Type 1} → statement M
