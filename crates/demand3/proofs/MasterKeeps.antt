@@ -22,10 +22,9 @@ use Rattle.master.specs.State.{isFree, sendable, inRanges, withLine, startOf}
 use Rattle.master.specs.Sending.{Behind, sendingOf, offerOf, tickOf}
 use Rattle.master.specs.Hearing.{hearOf}
 use Rattle.master.specs.declared.state.Master.{Master}
-use Rattle.master.specs.declared.answers.Sending.{Sending}
-use Rattle.master.specs.declared.answers.Sending.the-variants.{Offered, Again, Poll}
+use Rattle.master.specs.Answers.{Which, again}
 use Rattle.master.proofs.Ranges.{numbered, sendable-permits}
-use Rattle.conduct.specs.Master.Calls.{Call, offers, ticks, hears, outputOf, after, First, offered, polled}
+use Rattle.conduct.specs.Master.Calls.{Call, offers, ticks, hears, outputOf, after, FirstSending, offered, polled}
 use Rattle.conduct.proofs.Master.Calls.{rejects, brings, Quiet, barred, idle, unheard, Ends, permitted, strange, Does, stays, begins, repeats, ends, givesUp, does}
 use Rattle.conduct.proofs.Master.Kept.{keeps, start-ranged}
 use Rattle.demand3.specs.Ends.{Did, nothing, got}
@@ -74,7 +73,7 @@ module _ (m : Master) (h : inRanges m ≡ true) where
   unfolding sentOf
   sent-bytes rec out = take-append-seam (telegramOf (m .line) rec (m .number .0)) _
 
-  resent-view : (g : Bool) (at : ℕ) (out : List ℕ) → mview (sendingOf Again (withLine m g) (m .rec) (m .count + 1) at out .0)
+  resent-view : (g : Bool) (at : ℕ) (out : List ℕ) → mview (sendingOf again (withLine m g) (m .rec) (m .count + 1) at out .0)
       ≡ waits (isOne (m .number .0)) (telegramOf (m .line) (m .rec) (m .number .0)) (m .count + 1)
   unfolding sendingOf
   resent-view g at out = let z : ¬ (m .count + 1 ≡ 0) = λ q. omega arith in rw (ne-eqb (m .count + 1) 0 z)
@@ -94,7 +93,7 @@ module _ (m : Master) (h : inRanges m ≡ true) where
   acted call turn n (givesUp cause f c) = rw f MActs.gives
 
   -- a hearing sends no first time, and an end is reported
-  first-unheard : {call : Call} {sending : Sending} {rec : Record} → First m call sending rec → Hears call → ⊥
+  first-unheard : {call : Call} {sending : Which} {rec : Record} → FirstSending m call sending rec → Hears call → ⊥
   first-unheard offered q = q
   first-unheard polled q = q
 

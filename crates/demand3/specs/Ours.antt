@@ -14,7 +14,7 @@ use Rattle.master.specs.Answers.{Told, refused, nothing, sent, answered, otherK
 use Rattle.master.specs.Sending.{Behind, offerOf, tickOf}
 use Rattle.master.specs.Hearing.{hearOf}
 use Rattle.master.specs.declared.state.Master.{Master}
-use Rattle.master.specs.declared.answers.Sending.the-variants.{Offered, Again, Poll}
+use Rattle.master.specs.Answers.{offered, again, poll}
 use Rattle.master.specs.State as m
 use Rattle.desk.specs.Hearing.{Hearing}
 use Rattle.desk.specs.declared.state.Desk.{Desk}
@@ -29,9 +29,9 @@ use Rattle.demand3.specs.Ends as e
 abbrev pub didOf : List ℕ → Told → List ℕ → Did (List ℕ)
 didOf heard (refused x) out = e.nothing
 didOf heard nothing out = e.nothing
-didOf heard (sent Offered count bytes) out = first (take bytes out)
-didOf heard (sent Again count bytes) out = resent (take bytes out)
-didOf heard (sent Poll count bytes) out = first (take bytes out)
+didOf heard (sent offered count bytes) out = first (take bytes out)
+didOf heard (sent again count bytes) out = resent (take bytes out)
+didOf heard (sent poll count bytes) out = first (take bytes out)
 didOf heard (answered rec count) out = got heard count
 didOf heard (otherKind answer count) out = got heard count
 didOf heard (givenUp cause count) out = gave count
