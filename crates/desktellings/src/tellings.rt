@@ -1,0 +1,118 @@
+// The desk's answers.
+ghost use mathlib.Core.Path.{_≡_};
+ghost use Rattle.records.specs.Refusals.{refusalOf};
+ghost use Rattle.text.specs.Putting.{puts};
+ghost use Rattle.desktellings.specs.Tellings.{outcomeText, keyText, panelText, contentsText, sourceText, notedText, silentText, faultText, repeatText, handledText, heardText};
+use desk::answers::Heard;
+use desk::answers::Outcome;
+use records::records::Record;
+use records::refusals::Refusal;
+use replying::replying::Source;
+use text::putting::put_byte;
+use text::putting::put_text;
+use words::amounts::put_bytes;
+use words::items::put_record;
+use words::items::put_refusal;
+
+// A call that hears nothing.
+pub fn put_outcome(out: &mut [u8], at: usize, answer: Outcome) -> usize
+    ensures { λ r. ⌜ (r, now (out .exit)) ≡ puts (outcomeText answer) at (now (out .entry)) ⌝ }
+{
+    match answer {
+        Outcome::Done => put_text(out, at, b"done"),
+        Outcome::Lost => put_text(out, at, b"line noted lost"),
+        Outcome::Refused(r) => put_refusal(out, at, r),
+    }
+}
+
+fn put_key(out: &mut [u8], at: usize, key: u8) -> usize
+    ensures { λ r. ⌜ (r, now (out .exit)) ≡ puts (keyText key) at (now (out .entry)) ⌝ }
+{
+    let a = put_text(out, at, b"key ");
+    put_byte(out, a, key)
+}
+
+fn put_panel(out: &mut [u8], at: usize, rec: Record) -> usize
+    ensures { λ r. ⌜ (r, now (out .exit)) ≡ puts (panelText rec) at (now (out .entry)) ⌝ }
+{
+    let a = put_text(out, at, b"panel ");
+    put_record(out, a, rec)
+}
+
+fn put_contents(out: &mut [u8], at: usize, refusal: Refusal) -> usize
+    ensures { λ r. ⌜ (r, now (out .exit)) ≡ puts (contentsText (refusalOf refusal)) at (now (out .entry)) ⌝ }
+{
+    let a = put_text(out, at, b"contents ");
+    put_refusal(out, a, refusal)
+}
+
+// Where an answer comes from.
+fn put_source(out: &mut [u8], at: usize, s: Source) -> usize
+    ensures { λ r. ⌜ (r, now (out .exit)) ≡ puts (sourceText s) at (now (out .entry)) ⌝ }
+{
+    match s {
+        Source::Requested => put_text(out, at, b"requested"),
+        Source::Queue => put_text(out, at, b"queue"),
+        Source::Key(key) => put_key(out, at, key),
+        Source::Panel(rec) => put_panel(out, at, rec),
+        Source::Contents(r) => put_contents(out, at, r),
+        Source::NotMaster => put_text(out, at, b"not the master's"),
+        Source::NothingSet => put_text(out, at, b"nothing set"),
+    }
+}
+
+// Whether this call noted the line lost.
+fn put_noted(out: &mut [u8], at: usize, lost: bool) -> usize
+    ensures { λ r. ⌜ (r, now (out .exit)) ≡ puts (notedText lost) at (now (out .entry)) ⌝ }
+{
+    if lost {
+        return put_text(out, at, b"line noted lost, ");
+    }
+    at
+}
+
+fn put_silent(out: &mut [u8], at: usize, lost: bool, refusal: Refusal) -> usize
+    ensures { λ r. ⌜ (r, now (out .exit)) ≡ puts (silentText lost (refusalOf refusal)) at (now (out .entry)) ⌝ }
+{
+    let a = put_noted(out, at, lost);
+    let b = put_text(out, a, b"silent, ");
+    put_refusal(out, b, refusal)
+}
+
+fn put_fault(out: &mut [u8], at: usize, lost: bool, n: usize) -> usize
+    ensures { λ r. ⌜ (r, now (out .exit)) ≡ puts (faultText lost n) at (now (out .entry)) ⌝ }
+{
+    let a = put_noted(out, at, lost);
+    let b = put_text(out, a, b"fault, ");
+    put_bytes(out, b, n)
+}
+
+fn put_repeat(out: &mut [u8], at: usize, n: usize) -> usize
+    ensures { λ r. ⌜ (r, now (out .exit)) ≡ puts (repeatText n) at (now (out .entry)) ⌝ }
+{
+    let a = put_text(out, at, b"repeat, ");
+    put_bytes(out, a, n)
+}
+
+fn put_handled(out: &mut [u8], at: usize, lost: bool, s: Source, n: usize) -> usize
+    ensures { λ r. ⌜ (r, now (out .exit)) ≡ puts (handledText lost s n) at (now (out .entry)) ⌝ }
+{
+    let a = put_noted(out, at, lost);
+    let b = put_text(out, a, b"handled, ");
+    let c = put_source(out, b, s);
+    let d = put_text(out, c, b", ");
+    put_bytes(out, d, n)
+}
+
+// A call that hears.
+pub fn put_heard(out: &mut [u8], at: usize, answer: Heard) -> usize
+    ensures { λ r. ⌜ (r, now (out .exit)) ≡ puts (heardText answer) at (now (out .entry)) ⌝ }
+{
+    match answer {
+        Heard::Refused(r) => put_refusal(out, at, r),
+        Heard::Silent(lost, r) => put_silent(out, at, lost, r),
+        Heard::Fault(lost, n) => put_fault(out, at, lost, n),
+        Heard::Repeat(n) => put_repeat(out, at, n),
+        Heard::Handled(lost, s, n) => put_handled(out, at, lost, s, n),
+    }
+}

@@ -1,0 +1,45 @@
+-- `put_sent` puts its parts one behind the other. Assumes nothing.
+use Rattle.mastertellings.specs.Tellings.{sentText}
+use Rattle.text.proofs.Puts.{then}
+use borrow.Author.Needs.{needs}
+use Rattle.mastertellings.proofs.tellings.put_sent.Statement.{statement}
+use Rattle.mastertellings.proofs.tellings.put_sent.Tie as tie
+
+put-sending-requires : tie.Need-put-sending-requires
+put-sending-requires c κs = search needs
+
+put-count-requires : tie.Need-put-count-requires
+put-count-requires c κs = search needs
+
+slice-aggregate-put-text : tie.Need-slice-aggregate-put-text
+slice-aggregate-put-text c = search needs
+
+put-text-requires : tie.Need-put-text-requires
+put-text-requires c κs = search needs
+
+put-bytes-requires : tie.Need-put-bytes-requires
+put-bytes-requires c κs = search needs
+
+same-length : tie.Need-same-length
+same-length c = search needs
+
+returns : tie.Need-returns
+unfolding sentText
+returns c =
+    let a = c .before .before in
+    let b = a .before .before .before .before in
+    let d = b .before .before .before .before .before in
+    let e = d .before .before .before .before in
+    then _ _ _ _ _ _ _ _ (e .put-sending .ensures) (then _ _ _ _ _ _ _ _ (d .put-count .ensures) (then _ _ _ _ _ _ _ _ (b .put-text .ensures) (a .put-bytes .ensures)))
+
+pub put-sent-spec : {M : Type 1} → statement M
+put-sent-spec =
+    tie.close
+    (tie.spec
+    put-sending-requires
+    put-count-requires
+    slice-aggregate-put-text
+    put-text-requires
+    put-bytes-requires
+    same-length
+    returns)
