@@ -2,7 +2,7 @@
 use mathlib.Core.Path.{_≡_}
 use mathlib.Core.Bool.{Bool, true, not}
 use mathlib.Core.List.{List, [], _∷_, map}
-use Prim.Native.Nat.{ℕ}
+use Prim.Native.Nat.{ℕ, _+_, _*_}
 use Prim.Native.Char.{Char, code}
 use Prim.Native.String.{String}
 use lib.Dec.{eqb}
@@ -33,7 +33,7 @@ sample line text rec number = record { line = line; bytes = framed text; answer 
 -- the values of F D C M V P
 abbrev pub radio : ℕ → ℕ → ℕ → Char → Char → Char → ℕ → Radio
 radio fc d c mode left right position =
-    record { fc = fc; d = d; c = c; mode = code mode; left = code left; right = code right; position = position }
+    record { fc = fc; d = d; c = c; mode = code mode; watch = code left * 256 + code right; position = position }
 
 abbrev pub samples : List Sample
 samples =
