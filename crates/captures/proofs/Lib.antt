@@ -6,3 +6,4 @@ pub mod Whole
 pub mod Runs
 pub mod Filled
 pub mod Sample
+pub mod Turning

@@ -1,4 +1,4 @@
 pub mod Pieces
-pub mod Places
+pub mod Lister
 pub mod Whole
 pub mod Sample

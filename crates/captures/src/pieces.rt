@@ -39,14 +39,7 @@ pub enum NextLine {
 }
 
 // The line of the next telegram, from the front of an output.
-pub fn put_next(
-    line: u8,
-    ordinal: u64,
-    base: u64,
-    s: &[u8],
-    from: usize,
-    out: &mut [u8],
-) -> NextLine
+fn put_next(line: u8, ordinal: u64, base: u64, s: &[u8], from: usize, out: &mut [u8]) -> NextLine
     ensures { λ r. ⌜ (r, now (out .exit)) ≡ nextLineOf line ordinal base (now (s .entry)) from (now (out .entry)) ⌝ }
 {
     let span = span_of(s, from);
@@ -72,7 +65,14 @@ pub struct Listed {
 }
 
 // The lines of the telegrams from a place on, as many as there is room for.
-pub fn list_part(line: u8, ordinal: u64, base: u64, s: &[u8], from: usize, out: &mut [u8]) -> Listed
+pub(crate) fn list_part(
+    line: u8,
+    ordinal: u64,
+    base: u64,
+    s: &[u8],
+    from: usize,
+    out: &mut [u8],
+) -> Listed
     ensures { λ r. ⌜ (r, now (out .exit)) ≡ listPart line ordinal base (now (s .entry)) from (now (out .entry)) ⌝ }
 {
     let mut next = from;
