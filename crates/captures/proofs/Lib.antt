@@ -7,3 +7,6 @@ pub mod Runs
 pub mod Filled
 pub mod Sample
 pub mod Turning
+pub mod Going
+pub mod Stands
+pub mod EachTurn

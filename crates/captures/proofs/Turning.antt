@@ -4,21 +4,20 @@ use mathlib.Core.Bool.{Bool, true, false, cond}
 use mathlib.Core.List.{List}
 use Prim.Native.Nat.{ℕ, _+_, _-_, _≤_, _<_}
 use native.Mathlib.Omega.{arith}
-use lib.Dec.{ltb, leb, eqb}
-use lib.ListN.{length, take, getD}
+use lib.Dec.{ltb, leb}
+use lib.ListN.{length, take}
 use borrow.Author.Tests.{lt-ltb, le-ltb, lt-leb, le-leb, leb-true, eq-eqb, ne-eqb}
 use Rattle.laws.specs.Truth.{both, either}
 use Rattle.laws.proofs.Truths.{both-left, both-right}
 use Rattle.characters.specs.Marks.{longest}
 use Rattle.records.specs.Refusals.{No, no}
-use Rattle.reading.specs.Answers.{Fault, good, fails, Outcome, written, refused}
+use Rattle.reading.specs.Answers.{good, fails, Outcome, written, refused}
 use Rattle.text.specs.Putting.{puts}
 use Rattle.listings.specs.Lines.{lineRoom}
 use Rattle.captures.specs.declared.pieces.Listed.{Listed}
 use Rattle.captures.specs.declared.lister.Lister.{Lister}
 use Rattle.captures.specs.declared.lister.Wants.{Wants}
-use Rattle.captures.specs.declared.lister.Wants.the-variants.{Read, Again, End}
-use Rattle.captures.specs.Pieces.{lineNamed, badLine, listPart, keptFrom, tailPut}
+use Rattle.captures.specs.Pieces.{badLine, listPart, keptFrom, tailPut}
 use Rattle.captures.specs.Lister.{Turned, lineFits, inRanges, listFault, lineFor, ended, again, behind, unnamed, beside, carried, carriedOn, listingOn, readingOn, wantedOf, listOf}
 
 module _ (m : Lister) (len got : ℕ) where

@@ -1,5 +1,4 @@
 -- `carry_on` lists the bytes, and keeps the last of them where it has listed all. Assumes nothing.
-use mathlib.Core.Path.{sym, ap, _∙_}
 use denote.Ref.{now}
 use Rattle.laws.proofs.Truths.{not-true, not-false}
 use Rattle.captures.proofs.Turning.{full, kept}
@@ -47,9 +46,13 @@ same-length-4 c = search needs
 returns-2 : tie.Need-returns-2
 returns-2 c =
     let a = c .before .before .before .before .before .before .before .before .before .before .before .before .before .before .before .before .args in
+    let part = c .before .before .before .before .before .before .before .before .before .before .before .before .part in
     let list-part = c .before .before .before .before .before .before .before .before .before .before .list-part in
-    kept (a .self) (a .line) (now (a .buf)) (a .n) (now (a .out)) _ (list-part .result) _ (c .before .before .before .before .before .before .before .before .before .before .before .before .part .ensures) (list-part .ensures)
-    (c .behind .result) _ _ _ (not-false _ (c .before .before .before .before .before .before .if1 .left)) (c .before .before .before .before .before .kept-from .ensures) (c .before .before .before .keep-tail .ensures) (c .behind .ensures)
+    let if1 = c .before .before .before .before .before .before .if1 in
+    let kept-from = c .before .before .before .before .before .kept-from in
+    let keep-tail = c .before .before .before .keep-tail in
+    kept (a .self) (a .line) (now (a .buf)) (a .n) (now (a .out)) _ (list-part .result) _ (part .ensures) (list-part .ensures)
+    (c .behind .result) _ _ _ (not-false _ (if1 .left)) (kept-from .ensures) (keep-tail .ensures) (c .behind .ensures)
 
 pub carry-on-spec : {M : Type 1} → statement M
 carry-on-spec =

@@ -52,8 +52,12 @@ same-length-2 c = search needs
 returns-2 : tie.Need-returns-2
 returns-2 c =
     let a = c .before .before .before .before .before .before .before .before .before .before .before .before .before .before .before .args in
-    wanted (a .self) (now (a .buf)) (a .got) (now (a .out)) _ _ (sym (ap faultOf (c .before .before .before .before .before .before .before .before .before .before .enum-told .given .1)) ∙ c .before .before .before .before .before .before .before .before .before .before .before .before .list-check .ensures) (c .before .before .before .before .before .before .before .enum-told2 .given .1)
-    (c .before .before .before .before .read-on .ensures)
+    let list-check = c .before .before .before .before .before .before .before .before .before .before .before .before .list-check in
+    let enum-told = c .before .before .before .before .before .before .before .before .before .before .enum-told in
+    let enum-told2 = c .before .before .before .before .before .before .before .enum-told2 in
+    let read-on = c .before .before .before .before .read-on in
+    wanted (a .self) (now (a .buf)) (a .got) (now (a .out)) _ _ (sym (ap faultOf (enum-told .given .1)) ∙ list-check .ensures) (enum-told2 .given .1)
+    (read-on .ensures)
 
 same-length-3 : tie.Need-same-length-3
 same-length-3 c = search needs
@@ -64,13 +68,20 @@ same-length-4 c = search needs
 returns-3 : tie.Need-returns-3
 returns-3 c =
     let a = c .before .before .before .before .before .before .before .before .before .before .before .before .before .before .before .args in
-    wanted (a .self) (now (a .buf)) (a .got) (now (a .out)) _ _ (sym (ap faultOf (c .before .before .before .before .before .before .before .before .before .before .enum-told .given .1)) ∙ c .before .before .before .before .before .before .before .before .before .before .before .before .list-check .ensures) (c .before .before .before .before .before .before .before .enum-told3 .given .1)
-    (c .before .before .before .before .list-on .ensures)
+    let list-check = c .before .before .before .before .before .before .before .before .before .before .before .before .list-check in
+    let enum-told = c .before .before .before .before .before .before .before .before .before .before .enum-told in
+    let enum-told3 = c .before .before .before .before .before .before .before .enum-told3 in
+    let list-on = c .before .before .before .before .list-on in
+    wanted (a .self) (now (a .buf)) (a .got) (now (a .out)) _ _ (sym (ap faultOf (enum-told .given .1)) ∙ list-check .ensures) (enum-told3 .given .1)
+    (list-on .ensures)
 
 returns-4 : tie.Need-returns-4
 returns-4 c =
     let a = c .before .before .before .before .before .before .before .before .args in
-    wanted (a .self) (now (a .buf)) (a .got) (now (a .out)) _ _ (sym (ap faultOf (c .before .before .before .enum-told .given .1)) ∙ c .before .before .before .before .before .list-check .ensures) (c .enum-told4 .given .1) refl
+    let list-check = c .before .before .before .before .before .list-check in
+    let enum-told = c .before .before .before .enum-told in
+    wanted (a .self) (now (a .buf)) (a .got) (now (a .out)) _ _ (sym (ap faultOf (enum-told .given .1)) ∙ list-check .ensures) (c .enum-told4 .given .1)
+    refl
 
 pub list-spec : {M : Type 1} → statement M
 list-spec =

@@ -23,7 +23,11 @@ same-length-2 c = search needs
 returns : tie.Need-returns
 returns c =
     let a = c .before .before .before .before .before .before .before .before .before .before .args in
-    none-named (a .self) (now (a .buf)) (a .n) (now (a .out)) _ _ _ _ _ (c .before .before .before .before .before .before .part .ensures) (c .before .before .before .before .before .line-for .ensures) (c .before .before .before .before .if1 .taken) (c .before .before .unnamed .ensures)
+    let part = c .before .before .before .before .before .before .part in
+    let line-for = c .before .before .before .before .before .line-for in
+    let if1 = c .before .before .before .before .if1 in
+    none-named (a .self) (now (a .buf)) (a .n) (now (a .out)) _ _ _ _ _ (part .ensures) (line-for .ensures) (if1 .taken)
+    (c .before .before .unnamed .ensures)
 
 carry-on-requires : tie.Need-carry-on-requires
 carry-on-requires c κs = search needs
@@ -37,7 +41,11 @@ same-length-4 c = search needs
 returns-2 : tie.Need-returns-2
 returns-2 c =
     let a = c .before .before .before .before .before .before .before .before .before .before .before .before .before .args in
-    one-named (a .self) (now (a .buf)) (a .n) (now (a .out)) _ _ _ (c .before .before .before .before .before .before .before .before .before .part .ensures) (c .before .before .before .before .before .before .before .before .line-for .ensures) (c .before .before .before .before .before .before .before .if1 .left) (c .before .before .before .before .carry-on .ensures)
+    let part = c .before .before .before .before .before .before .before .before .before .part in
+    let line-for = c .before .before .before .before .before .before .before .before .line-for in
+    let if1 = c .before .before .before .before .before .before .before .if1 in
+    let carry-on = c .before .before .before .before .carry-on in
+    one-named (a .self) (now (a .buf)) (a .n) (now (a .out)) _ _ _ (part .ensures) (line-for .ensures) (if1 .left) (carry-on .ensures)
 
 pub list-on-spec : {M : Type 1} → statement M
 list-on-spec =

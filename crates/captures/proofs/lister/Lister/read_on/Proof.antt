@@ -1,6 +1,5 @@
 -- `read_on` lists on what was read, and ends where nothing was. Assumes nothing.
 use denote.Ref.{now}
-use native.Mathlib.Omega.{arith}
 use Rattle.captures.proofs.Turning.{more-read, never-named, all-read}
 use borrow.Author.Needs.{needs}
 use Rattle.captures.proofs.lister.Lister.read_on.Statement.{statement}
@@ -29,7 +28,9 @@ same-length-3 c = search needs
 returns-2 : tie.Need-returns-2
 returns-2 c =
     let a = c .before .before .before .before .before .before .before .before .before .args in
-    never-named (a .self) (now (a .buf)) (a .n) (now (a .out)) (a .got) _ _ _ (c .before .before .before .before .before .before .if1 .left) (c .before .before .before .before .if2 .taken) (c .before .before .unnamed .ensures)
+    let if1 = c .before .before .before .before .before .before .if1 in
+    let if2 = c .before .before .before .before .if2 in
+    never-named (a .self) (now (a .buf)) (a .n) (now (a .out)) (a .got) _ _ _ (if1 .left) (if2 .taken) (c .before .before .unnamed .ensures)
 
 ended-requires : tie.Need-ended-requires
 ended-requires c κs = search needs

@@ -1,5 +1,4 @@
 -- `unnamed` puts the text from the front and ends. Assumes nothing.
-use mathlib.Core.Path.{sym, ap, _∙_}
 use denote.Ref.{now}
 use Rattle.captures.proofs.Turning.{unnamed-put}
 use borrow.Author.Needs.{needs}
