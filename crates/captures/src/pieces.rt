@@ -32,7 +32,7 @@ pub fn bad_line() -> [u8; 8]
 }
 
 // What the next telegram's line is: of so many bytes, for a telegram that ends at a place; or it has no room, or none is left.
-pub enum NextLine {
+enum NextLine {
     Line { end: usize, len: usize },
     Full,
     Nothing,
@@ -57,7 +57,7 @@ fn put_next(line: u8, ordinal: u64, base: u64, s: &[u8], from: usize, out: &mut 
 }
 
 // How far a listing got: the place and ordinal of what comes next, how many bytes of lines there are, and whether no telegram is left.
-pub struct Listed {
+pub(crate) struct Listed {
     pub next: usize,
     pub ordinal: u64,
     pub filled: usize,

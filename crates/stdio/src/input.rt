@@ -1,5 +1,6 @@
 // Reading standard input.
 ghost use Rattle.stdio.specs.Input.{Reads};
+use crate::output::complain;
 use crate::trouble::try_again;
 use libc::STDIN_FILENO;
 
@@ -15,6 +16,8 @@ pub fn read_more(buf: &mut [u8], from: usize, name: &[u8]) -> Got
     ensures { λ r. ⌜ Reads r from (now (buf .entry)) (now (buf .exit)) ⌝ }
 {
     if buf.len() <= from {
+        complain(name);
+        complain(b": no room\n");
         return Got::Failed;
     }
     let mut turns = u64::MAX;

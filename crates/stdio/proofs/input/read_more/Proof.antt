@@ -14,6 +14,15 @@ Inv-loop buf₀ from name turns₀ buf turns = (from < length buf) × (length bu
 abbrev μ-loop : tie.MeasureT-loop
 μ-loop buf₀ from name turns₀ buf turns = turns
 
+complain-requires : tie.Need-complain-requires Inv-loop μ-loop
+complain-requires c κs = search needs
+
+slice-aggregate-complain : tie.Need-slice-aggregate-complain Inv-loop μ-loop
+slice-aggregate-complain c = search needs
+
+complain-requires-2 : tie.Need-complain-requires-2 Inv-loop μ-loop
+complain-requires-2 c κs = search needs
+
 returns : tie.Need-returns Inv-loop μ-loop
 returns c = search needs
 
@@ -92,6 +101,9 @@ read-more-spec =
     (tie.spec
     Inv-loop
     μ-loop
+    complain-requires
+    slice-aggregate-complain
+    complain-requires-2
     returns
     loop-holds
     sub-read
