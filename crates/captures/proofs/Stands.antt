@@ -21,7 +21,7 @@ use Rattle.captures.specs.declared.lister.Lister.{Lister}
 use Rattle.captures.specs.declared.lister.Wants.{Wants}
 use Rattle.captures.specs.declared.lister.Wants.the-variants.{Read, Again, End}
 use Rattle.captures.specs.Pieces.{linesOf, lineNamed, badLine, listingOf}
-use Rattle.captures.specs.Lister.{Turned, atFirst, lineFits, inRanges, listFault, lineFor, ended, unnamed, beside, carriedOn, listingOn, readingOn, wantedOf}
+use Rattle.captures.specs.Lister.{Turned, atFirst, placeFits, inRanges, listFault, lineFor, ended, unnamed, beside, carriedOn, listingOn, readingOn, wantedOf}
 use Rattle.captures.specs.Runs.{Stand, Given, begun, bufferOf, frontOf, standBehind, MayTurn}
 use Rattle.captures.proofs.Shifts.{lines-further}
 use Rattle.captures.proofs.Turning.{by-room, passes, none-named, one-named, more-read, all-read}
@@ -61,13 +61,13 @@ line-named digit h = go (isLine (digit - code "0")) refl h
     go true e q = e
     go false e q = clash (sym q)
 
--- a line fits, and is not 0
+-- a line is not 0, and with a place among the bytes held it fits
 known-line : (line : ℕ) → isLine line ≡ true → (line ≡ 0 → ⊥)
 known-line line h z = let k = from-bounds 1 3 line h in omega arith
 
-fits-line : (line : ℕ) → isLine line ≡ true → lineFits line ≡ true
-unfolding lineFits
-fits-line line h = rw (ne-eqb line 0 (known-line line h), h)
+fits-place : (m : Lister) → isLine (m .line) ≡ true → m .next ≤ m .held → placeFits m ≡ true
+unfolding placeFits
+fits-place m h l = rw (ne-eqb (m .line) 0 (known-line (m .line) h), h, le-leb (m .next) (m .held) l)
 
 -- a digit that names no line, and one that does
 bad-listing : (digit : ℕ) (s : List ℕ) → lineNamed digit ≡ 0 → listingOf (digit ∷ s) ≡ badLine
@@ -118,7 +118,7 @@ abbrev pub Taken : Stand → Given → Type 0
 Taken s g = good ≡ listFault (s .lister) (length (bufferOf s g)) (length (g .piece)) (length (g .out))
 
 -- a turn is not refused
-not-refused : (s : Stand) (g : Given) → MayTurn s g → lineFits (s .lister .line) ≡ true → s .lister .held ≤ length (s .buf) → Taken s g
+not-refused : (s : Stand) (g : Given) → MayTurn s g → placeFits (s .lister) ≡ true → s .lister .held ≤ length (s .buf) → Taken s g
 not-refused s g may f h =
     let m = s .lister in
     let n = length (bufferOf s g) in
@@ -171,10 +171,10 @@ module _ (buf rest out : List ℕ) (room : lineRoom ≤ length out) where
         (λ b. rw (← hand-is) (lines-further (lineNamed d) 18446744073709551615 1 (d ∷ (p ++ b)) 1 0))))))
 
 opening-made : (buf : List ℕ) (g : Given) → MayTurn (begun buf) g → Taken (begun buf) g × Made (begun buf) g (wantedIn (begun buf) g)
-unfolding lineFits
+unfolding placeFits
 opening-made buf g may = (not-refused (begun buf) g may fits (omega arith), go (g .piece) (may .output))
   where
-    fits : lineFits 0 ≡ true
+    fits : placeFits atFirst ≡ true
     fits = refl
 
     go : (p : List ℕ) → lineRoom ≤ length (g .out) → Made (begun buf) (record { piece = p; rest = g .rest; out = g .out }) (readingOn atFirst (p ++ g .rest) (length p) (0 + length p) (g .out))
@@ -252,7 +252,7 @@ module _ (s : Stand) (g : Given) (digit : ℕ) (body : List ℕ) (l : Lists s di
       empty (x ∷ xs) h = let z : ⊥ = omega arith in absurd z
 
   listing-passes : Taken s g × Made s g (wantedIn s g)
-  listing-passes = (not-refused s g may (fits-line (m .line) (l .known)) (l .held), by-wants (m .wants) refl)
+  listing-passes = (not-refused s g may (fits-place m (l .known) (l .place)) (l .held), by-wants (m .wants) refl)
 
 -- each turn that may be made
 pub made : (s : Stand) (g : Given) → Holds s → MayTurn s g → Taken s g × Made s g (wantedIn s g)

@@ -18,18 +18,18 @@ use Rattle.captures.specs.declared.pieces.Listed.{Listed}
 use Rattle.captures.specs.declared.lister.Lister.{Lister}
 use Rattle.captures.specs.declared.lister.Wants.{Wants}
 use Rattle.captures.specs.Pieces.{badLine, listPart, keptFrom, tailPut}
-use Rattle.captures.specs.Lister.{Turned, lineFits, inRanges, listFault, lineFor, ended, again, behind, unnamed, beside, carried, carriedOn, listingOn, readingOn, wantedOf, listOf}
+use Rattle.captures.specs.Lister.{Turned, placeFits, inRanges, listFault, lineFor, ended, again, behind, unnamed, beside, carried, carriedOn, listingOn, readingOn, wantedOf, listOf}
 
 module _ (m : Lister) (len got : ℕ) where
-  pub no-line : lineFits (m .line) ≡ false → false ≡ inRanges m len got
+  pub no-place : placeFits m ≡ false → false ≡ inRanges m len got
   unfolding inRanges
-  no-line h = rw h
+  no-place h = rw h
 
-  pub not-held : lineFits (m .line) ≡ true → len < m .held → false ≡ inRanges m len got
+  pub not-held : placeFits m ≡ true → len < m .held → false ≡ inRanges m len got
   unfolding inRanges
   not-held h l = rw (h, lt-leb (m .held) len l)
 
-  pub by-room : lineFits (m .line) ≡ true → m .held ≤ len → leb got (len - m .held) ≡ inRanges m len got
+  pub by-room : placeFits m ≡ true → m .held ≤ len → leb got (len - m .held) ≡ inRanges m len got
   unfolding inRanges
   by-room h l = rw (h, le-leb (m .held) len l)
 
@@ -37,7 +37,7 @@ module _ (m : Lister) (len got : ℕ) where
   pub held-within : inRanges m len got ≡ true → m .held + got ≤ len
   unfolding inRanges
   held-within h =
-      let k = both-right (lineFits (m .line)) (both (leb (m .held) len) (leb got (len - m .held))) h in
+      let k = both-right (placeFits m) (both (leb (m .held) len) (leb got (len - m .held))) h in
       let a = leb-true (m .held) len (both-left (leb (m .held) len) (leb got (len - m .held)) k) in
       let b = leb-true got (len - m .held) (both-right (leb (m .held) len) (leb got (len - m .held)) k) in
       omega arith

@@ -25,13 +25,13 @@ Turned = Lister × (Outcome × (List ℕ × List ℕ))
 abbrev pub atFirst : Lister
 atFirst = record { line = 0; held = 0; next = 1; ordinal = 1; base = 2 ^ 64 - 1; wants = Read }
 
--- line 1 to 3, or 0 before its digit is known
-unfoldable pub lineFits : ℕ → Bool
-lineFits line = either (eqb line 0) (isLine line)
+-- line 0 before the digit is known, with nothing held; then line 1 to 3, and the listing goes on among the bytes held
+unfoldable pub placeFits : Lister → Bool
+placeFits m = cond (eqb (m .line) 0) (both (eqb (m .held) 0) (eqb (m .next) 1)) (both (isLine (m .line)) (leb (m .next) (m .held)))
 
--- the line fits; the bytes held, and those got behind them, are in the buffer
+-- line and place fit; the bytes held, and those got behind them, are in the buffer
 unfoldable pub inRanges : Lister → ℕ → ℕ → Bool
-inRanges m len got = both (lineFits (m .line)) (both (leb (m .held) len) (leb got (len - m .held)))
+inRanges m len got = both (placeFits m) (both (leb (m .held) len) (leb got (len - m .held)))
 
 -- 15 where the state is out of its ranges; then 14 where the output has no room for a line, or the buffer none for a byte behind an unfinished telegram
 unfoldable pub listFault : Lister → ℕ → ℕ → ℕ → Fault

@@ -1,7 +1,7 @@
 // A listing of a capture of any length, a turn at a time (01 'Bench cases', 'Numbered answers').
 ghost use mathlib.Core.Path.{_≡_};
 ghost use Rattle.reading.specs.Answers.{faultOf, outcomeOf};
-ghost use Rattle.captures.specs.Lister.{atFirst, lineFits, inRanges, listFault, lineFor, ended, again, behind, unnamed, carriedOn, listingOn, readingOn, listOf};
+ghost use Rattle.captures.specs.Lister.{atFirst, placeFits, inRanges, listFault, lineFor, ended, again, behind, unnamed, carriedOn, listingOn, readingOn, listOf};
 use crate::pieces::Listed;
 use crate::pieces::bad_line;
 use crate::pieces::keep_tail;
@@ -43,13 +43,6 @@ pub struct Step {
     pub answer: Writing,
 }
 
-// Whether there is such a line, or it is 0.
-fn line_fits(line: u8) -> bool
-    ensures { λ r. ⌜ r ≡ lineFits line ⌝ }
-{
-    if line == 0 { true } else { is_line(line) }
-}
-
 impl Lister {
     // Ordinals go from 1; the digit stands before offset 0, and the listing goes on behind it.
     pub fn start() -> Self
@@ -65,11 +58,27 @@ impl Lister {
         }
     }
 
+    // Whether line and place are in their ranges: before the digit is known nothing is held, and then the listing goes on among the bytes held.
+    fn place_fits(self) -> bool
+        ensures { λ r. ⌜ r ≡ placeFits self ⌝ }
+    {
+        if self.line == 0 {
+            if self.held != 0 {
+                return false;
+            }
+            return self.next == 1;
+        }
+        if !is_line(self.line) {
+            return false;
+        }
+        self.next <= self.held
+    }
+
     // Whether the state is in its ranges, with so many bytes got into a buffer of a length.
     fn in_ranges(self, len: usize, got: usize) -> bool
         ensures { λ r. ⌜ r ≡ inRanges self len got ⌝ }
     {
-        if !line_fits(self.line) {
+        if !self.place_fits() {
             return false;
         }
         if len < self.held {
