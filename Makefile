@@ -21,7 +21,7 @@ scene: dist/scenes
 	@tools/run dist/scenes < $(IN)
 
 demo: dist/scenes
-	@cargo run --offline --quiet --manifest-path host/Cargo.toml --bin demo dist/scenes $(LINE) $(SEED) $(SECONDS)
+	@cargo run --offline --quiet --manifest-path host/Cargo.toml --bin demo dist/scenes '$(LINE)' '$(SEED)' '$(SECONDS)'
 
 check:
 	.ci/run

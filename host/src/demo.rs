@@ -40,6 +40,23 @@ pub const SHOWN: Odds = Odds {
     dead: 30_000..64_000,
 };
 
+/// The line, seed and seconds that three words ask for, or what is wrong with them; the clock
+/// has 32 bits of milliseconds.
+pub fn asked(line: &str, seed: &str, seconds: &str) -> Result<(u8, u64, u32), String> {
+    let number = |word: &str, most: u64| word.parse().ok().filter(|n| (1..=most).contains(n));
+    let most = u64::from(u32::MAX / 1_000);
+    let Some(on) = number(line, 3) else {
+        return Err(format!("LINE is 1, 2 or 3, not '{line}'"));
+    };
+    let Ok(from) = seed.parse() else {
+        return Err(format!("SEED is a number, not '{seed}'"));
+    };
+    let Some(time) = number(seconds, most) else {
+        return Err(format!("SECONDS is 1 to {most}, not '{seconds}'"));
+    };
+    Ok((on as u8, from, time as u32))
+}
+
 /// What becomes of a thing on the line.
 enum Fate {
     Whole,

@@ -1,10 +1,11 @@
 //! Both ends over a simulated line: demand 3 on what happened, and the kept exchange.
 
 use host::demand::{judge, supposed, Item};
-use host::demo::{run, SHOWN};
+use host::demo::{asked, run, SHOWN};
 use host::program::Program;
 use host::script::Bench;
 use std::path::{Path, PathBuf};
+use std::process::Command;
 
 /// A path in the repository.
 fn repository(path: &str) -> PathBuf {
@@ -21,6 +22,38 @@ fn program() -> Program {
 fn kept_exchange() {
     let kept = std::fs::read_to_string(repository("samples/exchange.txt")).expect("it is read");
     assert_eq!(run(&mut program(), &SHOWN, 1, 33, 90_000).0, kept);
+}
+
+/// What the demonstration asks for: other lines, no time and words are refused with status 2.
+#[test]
+fn asked_for() {
+    assert_eq!(asked("3", "0", "1"), Ok((3, 0, 1)));
+    assert_eq!(asked("1", "33", "4294967"), Ok((1, 33, 4_294_967)));
+    for (words, trouble) in [
+        (["4", "33", "90"], "LINE is 1, 2 or 3, not '4'"),
+        (["0", "33", "90"], "LINE is 1, 2 or 3, not '0'"),
+        (["257", "33", "90"], "LINE is 1, 2 or 3, not '257'"),
+        (["", "33", "90"], "LINE is 1, 2 or 3, not ''"),
+        (["1", "x", "90"], "SEED is a number, not 'x'"),
+        (["1", "33", "0"], "SECONDS is 1 to 4294967, not '0'"),
+        (["1", "33", "-1"], "SECONDS is 1 to 4294967, not '-1'"),
+        (
+            ["1", "33", "4294968"],
+            "SECONDS is 1 to 4294967, not '4294968'",
+        ),
+    ] {
+        let output = Command::new(env!("CARGO_BIN_EXE_demo"))
+            .arg("no program")
+            .args(words)
+            .output()
+            .expect("it runs");
+        assert_eq!(output.status.code(), Some(2), "{words:?}");
+        assert_eq!(
+            String::from_utf8_lossy(&output.stderr),
+            format!("demo: {trouble}\n")
+        );
+        assert!(output.stdout.is_empty());
+    }
 }
 
 /// Runs from many seeds: the two versions of the ends say the same, and demand 3 holds.

@@ -6,3 +6,7 @@ pub mod Whole
 pub mod Runs
 pub mod Filled
 pub mod Sample
+pub mod Turning
+pub mod Going
+pub mod Stands
+pub mod EachTurn

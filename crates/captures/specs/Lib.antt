@@ -1,4 +1,5 @@
 pub mod Pieces
-pub mod Places
+pub mod Lister
 pub mod Whole
+pub mod Runs
 pub mod Sample

@@ -32,21 +32,14 @@ pub fn bad_line() -> [u8; 8]
 }
 
 // What the next telegram's line is: of so many bytes, for a telegram that ends at a place; or it has no room, or none is left.
-pub enum NextLine {
+enum NextLine {
     Line { end: usize, len: usize },
     Full,
     Nothing,
 }
 
 // The line of the next telegram, from the front of an output.
-pub fn put_next(
-    line: u8,
-    ordinal: u64,
-    base: u64,
-    s: &[u8],
-    from: usize,
-    out: &mut [u8],
-) -> NextLine
+fn put_next(line: u8, ordinal: u64, base: u64, s: &[u8], from: usize, out: &mut [u8]) -> NextLine
     ensures { λ r. ⌜ (r, now (out .exit)) ≡ nextLineOf line ordinal base (now (s .entry)) from (now (out .entry)) ⌝ }
 {
     let span = span_of(s, from);
@@ -64,7 +57,7 @@ pub fn put_next(
 }
 
 // How far a listing got: the place and ordinal of what comes next, how many bytes of lines there are, and whether no telegram is left.
-pub struct Listed {
+pub(crate) struct Listed {
     pub next: usize,
     pub ordinal: u64,
     pub filled: usize,
@@ -72,7 +65,14 @@ pub struct Listed {
 }
 
 // The lines of the telegrams from a place on, as many as there is room for.
-pub fn list_part(line: u8, ordinal: u64, base: u64, s: &[u8], from: usize, out: &mut [u8]) -> Listed
+pub(crate) fn list_part(
+    line: u8,
+    ordinal: u64,
+    base: u64,
+    s: &[u8],
+    from: usize,
+    out: &mut [u8],
+) -> Listed
     ensures { λ r. ⌜ (r, now (out .exit)) ≡ listPart line ordinal base (now (s .entry)) from (now (out .entry)) ⌝ }
 {
     let mut next = from;
