@@ -3,7 +3,7 @@ mod rows;
 mod runs;
 
 fn main() {
-    let mut input = io::large_buffer();
+    let mut input = [0u8; 65536];
     let mut out = rows::output();
     rows::run(&mut input, &mut out);
 }

@@ -6,8 +6,9 @@ use characters::slices::part;
 use compared::rows::put_row;
 use compared::tally::Tally;
 use compared::tally::put_tally;
-use libc::STDIN_FILENO;
-use libc::STDOUT_FILENO;
+use stdio::input::Got;
+use stdio::input::read_full;
+use stdio::output::write_out;
 use words::fields::field;
 
 // Room for a row's name and expectation, which have under 65,536 bytes, as that is all that is read, and 256 for what came.
@@ -29,7 +30,7 @@ fn expected(row: &[u8]) -> &[u8] {
 
 // Writes the first n bytes of an output.
 fn say(out: &[u8], n: usize) {
-    io::write_all(STDOUT_FILENO, part(out, 0, n));
+    write_out(out, n, b"cases: writing");
 }
 
 // Says a row with what came, and counts it.
@@ -58,7 +59,9 @@ fn all(text: &[u8], out: &mut [u8]) -> Tally {
 }
 
 pub(crate) fn run(input: &mut [u8], out: &mut [u8]) {
-    let n = io::read_full(STDIN_FILENO, input);
+    let Got::Bytes(n) = read_full(input, b"cases: reading") else {
+        return;
+    };
     let tally = all(part(input, 0, n), out);
     let end = put_tally(out, 0, tally);
     say(out, end);

@@ -4,7 +4,7 @@ use characters::slices::part;
 use compared::rows::put_row;
 use compared::tally::Tally;
 use compared::tally::put_tally;
-use libc::STDOUT_FILENO;
+use stdio::output::write_out;
 use text::numbers::put_number;
 use text::putting::put_text;
 
@@ -12,7 +12,7 @@ use text::putting::put_text;
 fn told(name: &[u8], expected: &[u8], came: &[u8], tally: Tally) -> Tally {
     let mut out = [0u8; 256];
     let n = put_row(&mut out, 0, name, expected, came);
-    io::write_all(STDOUT_FILENO, part(&out, 0, n));
+    write_out(&out, n, b"damage: writing");
     tally.counted(expected, came)
 }
 
@@ -63,5 +63,5 @@ pub(crate) fn run() {
     let tally = all();
     let mut out = [0u8; 64];
     let n = put_tally(&mut out, 0, tally);
-    io::write_all(STDOUT_FILENO, part(&out, 0, n));
+    write_out(&out, n, b"damage: writing");
 }

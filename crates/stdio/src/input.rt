@@ -34,3 +34,25 @@ pub fn read_more(buf: &mut [u8], from: usize, name: &[u8]) -> Got
     }
     Got::Failed
 }
+
+// Reads until the buffer is full or the input ends: how many bytes stand in its front.
+pub fn read_full(buf: &mut [u8], name: &[u8]) -> Got
+    ensures { λ r. ⌜ Reads r 0 (now (buf .entry)) (now (buf .exit)) ⌝ }
+{
+    let mut n: usize = 0;
+    let mut turns = u64::MAX;
+    while turns > 0 {
+        if buf.len() <= n {
+            return Got::Bytes(n);
+        }
+        let Got::Bytes(got) = read_more(buf, n, name) else {
+            return Got::Failed;
+        };
+        if got == 0 {
+            return Got::Bytes(n);
+        }
+        n = n + got;
+        turns = turns - 1;
+    }
+    Got::Failed
+}
