@@ -21,10 +21,10 @@ use Rattle.captures.specs.declared.lister.Lister.{Lister}
 use Rattle.captures.specs.declared.lister.Wants.{Wants}
 use Rattle.captures.specs.declared.lister.Wants.the-variants.{Read, Again, End}
 use Rattle.captures.specs.Pieces.{linesOf, lineNamed, badLine, listingOf}
-use Rattle.captures.specs.Lister.{Turned, atFirst, placeFits, inRanges, listFault, lineFor, ended, unnamed, beside, carriedOn, listingOn, readingOn, wantedOf}
+use Rattle.captures.specs.Lister.{Turned, atFirst, placeFits, listFault, lineFor, ended, unnamed, beside, carriedOn, listingOn, readingOn, wantedOf}
 use Rattle.captures.specs.Runs.{Stand, Given, begun, bufferOf, frontOf, standBehind, MayTurn}
 use Rattle.captures.proofs.Shifts.{lines-further}
-use Rattle.captures.proofs.Turning.{by-room, passes, none-named, one-named, more-read, all-read}
+use Rattle.captures.proofs.Turning.{all-fits, passes, none-named, one-named, more-read, all-read}
 use Rattle.captures.proofs.Going.{Going, Went, went}
 
 -- the line is known, and its listing goes on
@@ -124,8 +124,7 @@ not-refused s g may f h =
     let n = length (bufferOf s g) in
     let l : length (bufferOf s g) ≡ s .lister .held + (length (g .piece) + length (g .rest)) =
     rw (length-append (take (m .held) (s .buf)) (g .piece ++ g .rest), length-append (g .piece) (g .rest), length-take-le (m .held) (s .buf) h) in
-    let r : inRanges (s .lister) (length (bufferOf s g)) (length (g .piece)) ≡ true =
-    sym (by-room m n (length (g .piece)) f (omega arith)) ∙ le-leb (length (g .piece)) (n - m .held) (omega arith) in
+    let r = all-fits m n (length (g .piece)) f (omega arith) (omega arith) in
     passes m n (length (g .piece)) (length (g .out)) r (may .output) (may .buffer)
 
 -- the bytes at hand: those held, and those read behind them

@@ -21,17 +21,21 @@ use Rattle.captures.specs.Pieces.{badLine, listPart, keptFrom, tailPut}
 use Rattle.captures.specs.Lister.{Turned, placeFits, inRanges, listFault, lineFor, ended, again, behind, unnamed, beside, carried, carriedOn, listingOn, readingOn, wantedOf, listOf}
 
 module _ (m : Lister) (len got : ℕ) where
-  pub no-place : placeFits m ≡ false → false ≡ inRanges m len got
+  pub no-place : placeFits m ≡ false → inRanges m len got ≡ false
   unfolding inRanges
   no-place h = rw h
 
-  pub not-held : placeFits m ≡ true → len < m .held → false ≡ inRanges m len got
+  pub not-held : placeFits m ≡ true → len < m .held → inRanges m len got ≡ false
   unfolding inRanges
   not-held h l = rw (h, lt-leb (m .held) len l)
 
-  pub by-room : placeFits m ≡ true → m .held ≤ len → leb got (len - m .held) ≡ inRanges m len got
+  pub not-got : placeFits m ≡ true → m .held ≤ len → len - m .held < got → inRanges m len got ≡ false
   unfolding inRanges
-  by-room h l = rw (h, le-leb (m .held) len l)
+  not-got h l k = rw (h, le-leb (m .held) len l, lt-leb got (len - m .held) k)
+
+  pub all-fits : placeFits m ≡ true → m .held ≤ len → got ≤ len - m .held → inRanges m len got ≡ true
+  unfolding inRanges
+  all-fits h l k = rw (h, le-leb (m .held) len l, le-leb got (len - m .held) k)
 
   -- the bytes of a state in its ranges are in the buffer
   pub held-within : inRanges m len got ≡ true → m .held + got ≤ len

@@ -1,8 +1,7 @@
 // A listing of a capture of any length, a turn at a time (01 'Bench cases', 'Numbered answers').
 ghost use mathlib.Core.Path.{_≡_};
 ghost use Rattle.reading.specs.Answers.{faultOf, outcomeOf};
-ghost use Rattle.captures.specs.Lister.{atFirst, placeFits, inRanges, listFault, lineFor, ended, again, behind, unnamed, carriedOn, listingOn, readingOn, listOf};
-use crate::pieces::Listed;
+ghost use Rattle.captures.specs.Lister.{atFirst, placeFits, listFault, lineFor, ended, unnamed, carriedOn, listingOn, readingOn, listOf};
 use crate::pieces::bad_line;
 use crate::pieces::keep_tail;
 use crate::pieces::kept_from;
@@ -74,24 +73,17 @@ impl Lister {
         self.next <= self.held
     }
 
-    // Whether the state is in its ranges, with so many bytes got into a buffer of a length.
-    fn in_ranges(self, len: usize, got: usize) -> bool
-        ensures { λ r. ⌜ r ≡ inRanges self len got ⌝ }
-    {
-        if !self.place_fits() {
-            return false;
-        }
-        if len < self.held {
-            return false;
-        }
-        got <= len - self.held
-    }
-
     // What refuses a turn: 15, then 14.
     fn list_check(self, len: usize, got: usize, room: usize) -> Check
         ensures { λ r. ⌜ faultOf r ≡ listFault self len got room ⌝ }
     {
-        if !self.in_ranges(len, got) {
+        if !self.place_fits() {
+            return Check::Fails(Refusal::State);
+        }
+        if len < self.held {
+            return Check::Fails(Refusal::State);
+        }
+        if len - self.held < got {
             return Check::Fails(Refusal::State);
         }
         if room < LINE_ROOM {
@@ -127,35 +119,6 @@ impl Lister {
         }
     }
 
-    // The output is full: the n bytes stay, and the listing goes on among them.
-    fn again(self, line: u8, listed: Listed, n: usize) -> Lister
-        ensures { λ r. ⌜ r ≡ again self line listed n ⌝ }
-    {
-        Lister {
-            line,
-            held: n,
-            next: listed.next,
-            ordinal: listed.ordinal,
-            base: self.base,
-            wants: Wants::Again,
-        }
-    }
-
-    // Behind the telegrams of n bytes, of which those from a place on are kept.
-    fn behind(self, line: u8, ordinal: u64, from: usize, n: usize) -> Lister
-        ensures { λ r. ⌜ r ≡ behind self line ordinal from n ⌝ }
-    {
-        let wants = Wants::Read;
-        Lister {
-            line,
-            held: less(n, from),
-            next: 0,
-            ordinal,
-            base: std::num::wrapping_add_u64(self.base, from as u64),
-            wants,
-        }
-    }
-
     // No input, or another first byte: `no 15 0`, and nothing else.
     fn unnamed(self, out: &mut [u8]) -> Step
         ensures { λ r. ⌜ (r .lister, (outcomeOf (r .answer), now (out .exit))) ≡ unnamed self (now (out .entry)) ⌝ }
@@ -181,14 +144,29 @@ impl Lister {
         );
         if !listed.done {
             return Step {
-                lister: self.again(line, listed, n),
+                lister: Lister {
+                    line,
+                    held: n,
+                    next: listed.next,
+                    ordinal: listed.ordinal,
+                    base: self.base,
+                    wants: Wants::Again,
+                },
                 answer: Writing::Written(listed.filled),
             };
         }
         let from = kept_from(listed.next, n);
         keep_tail(buf, from, n);
+        let wants = Wants::Read;
         Step {
-            lister: self.behind(line, listed.ordinal, from, n),
+            lister: Lister {
+                line,
+                held: less(n, from),
+                next: 0,
+                ordinal: listed.ordinal,
+                base: std::num::wrapping_add_u64(self.base, from as u64),
+                wants,
+            },
             answer: Writing::Written(listed.filled),
         }
     }
