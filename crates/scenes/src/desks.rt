@@ -2,9 +2,9 @@
 use crate::rows;
 use crate::rows::Call;
 use crate::show;
-use characters::slices::part;
 use clock::counters::LastTaken;
 use desk::answers::Heard;
+use desk::answers::Outcome;
 use desk::applying::Hearing;
 use desk::state::Desk;
 use desk::state::Step;
@@ -17,37 +17,54 @@ use text::putting::put_text;
 use words::fields::word_value;
 use words::items::put_record;
 
-// The state: line, last number taken, queued records.
-fn end(out: &mut [u8], at: usize, good: bool, last: u8, queued: usize) {
-    let a = show::line(out, at, good);
-    let b = show::number(out, a, b", last ", last as u64);
-    let c = show::number(out, b, b", queued ", queued as u64);
+// What every row of the desk ends with: line, last number taken, queued records.
+struct Numbers {
+    good: bool,
+    last: u8,
+    queued: usize,
+}
+
+fn numbers_of(d: Desk) -> Numbers {
+    let last = d.last;
+    Numbers {
+        good: d.good,
+        last: last.0,
+        queued: d.queued,
+    }
+}
+
+fn end(out: &mut [u8], at: usize, n: Numbers) {
+    let a = show::line(out, at, n.good);
+    let b = show::number(out, a, b", last ", n.last as u64);
+    let c = show::number(out, b, b", queued ", n.queued as u64);
     show::end(out, c);
 }
 
-// What was heard, and what was sent.
-fn heard(out: &mut [u8], row: &[u8], answer: Heard, sent: &[u8; 128]) -> usize {
+// What was heard, what was sent, and the state.
+fn heard(out: &mut [u8], row: &[u8], answer: Heard, sent: &[u8; 128], n: Numbers) {
     let a = show::begin(out, row);
     let b = put_heard(out, a, answer);
-    show::output(out, b, sent)
+    let c = show::output(out, b, sent);
+    end(out, c, n);
 }
 
 fn told(hearing: Hearing, row: &[u8], sent: &[u8; 128], out: &mut [u8]) -> Desk {
     let desk = hearing.desk;
     let answer = hearing.answer;
-    let last = desk.last;
-    let a = heard(out, row, answer, sent);
-    end(out, a, desk.good, last.0, desk.queued);
+    heard(out, row, answer, sent, numbers_of(desk));
     desk
 }
 
 fn hear(d: Desk, row: &[u8], out: &mut [u8]) -> Desk {
     let room = rows::room(row);
-    let frame = rows::heard(row, 4);
-    let bytes = frame.bytes;
-    let time = word_value(row, 2);
+    let mut bytes = [0u8; 256];
+    let n = rows::heard(row, 4, &mut bytes);
     let mut sent = [b'#'; 128];
-    let hearing = d.hear(time, part(&bytes, 0, frame.n), &mut sent[..room]);
+    let hearing = d.hear(
+        word_value(row, 2),
+        rows::first(&bytes, n),
+        &mut sent[..room],
+    );
     told(hearing, row, &sent, out)
 }
 
@@ -68,12 +85,15 @@ fn altered(d: Desk, field: usize, value: u32) -> Desk {
     e
 }
 
-fn alter(d: Desk, row: &[u8], out: &mut [u8]) -> Desk {
-    let desk = altered(d, rows::altered_field(row), word_value(row, 3));
-    let last = desk.last;
+fn alter_row(out: &mut [u8], row: &[u8], n: Numbers) {
     let a = show::begin(out, row);
     let b = put_text(out, a, b"altered");
-    end(out, b, desk.good, last.0, desk.queued);
+    end(out, b, n);
+}
+
+fn alter(d: Desk, row: &[u8], out: &mut [u8]) -> Desk {
+    let desk = altered(d, rows::altered_field(row), word_value(row, 3));
+    alter_row(out, row, numbers_of(desk));
     desk
 }
 
@@ -107,7 +127,7 @@ fn queue(out: &mut [u8], at: usize, queue: [Waiting; 8], queued: usize) -> usize
 }
 
 // The line, T1's start, the key position and the stored answer.
-fn numbers(
+fn state_numbers(
     out: &mut [u8],
     at: usize,
     line: u8,
@@ -124,23 +144,21 @@ fn numbers(
 }
 
 // The whole state: its numbers, the record set for r and those that wait.
-fn whole(d: Desk, row: &[u8], out: &mut [u8]) -> Desk {
-    let last = d.last;
+fn whole(d: Desk, row: &[u8], out: &mut [u8]) {
     let stored = d.stored;
     let wanted = d.requested;
-    let records = d.queue;
+    let waiting = d.queue;
     let a = show::begin(out, row);
-    let b = numbers(out, a, d.line, d.t1, d.key, &stored, d.kept);
+    let b = state_numbers(out, a, d.line, d.t1, d.key, &stored, d.kept);
     let c = requested(out, b, wanted);
-    let e = queue(out, c, records, d.queued);
-    end(out, e, d.good, last.0, d.queued);
-    d
+    let e = queue(out, c, waiting, d.queued);
+    end(out, e, numbers_of(d));
 }
 
 // The first byte that a row's text means.
 fn key(row: &[u8]) -> u8 {
-    let frame = rows::heard(row, 2);
-    let bytes = frame.bytes;
+    let mut bytes = [0u8; 256];
+    rows::heard(row, 2, &mut bytes);
     bytes[0]
 }
 
@@ -157,15 +175,23 @@ fn step(d: Desk, call: Call, row: &[u8]) -> Step {
     }
 }
 
-fn stepped(d: Desk, call: Call, row: &[u8], out: &mut [u8]) -> Desk {
-    let step = step(d, call, row);
-    let desk = step.desk;
-    let answer = step.answer;
-    let last = desk.last;
+fn step_row(out: &mut [u8], row: &[u8], answer: Outcome, n: Numbers) {
     let a = show::begin(out, row);
     let b = put_outcome(out, a, answer);
-    end(out, b, desk.good, last.0, desk.queued);
+    end(out, b, n);
+}
+
+fn stepped(step: Step, row: &[u8], out: &mut [u8]) -> Desk {
+    let desk = step.desk;
+    let answer = step.answer;
+    step_row(out, row, answer, numbers_of(desk));
     desk
+}
+
+// Before any start the desk is the blank state of line 0.
+pub(crate) fn blank() -> Desk {
+    let step = Desk::start(0);
+    step.desk
 }
 
 // The desk behind a row.
@@ -173,11 +199,11 @@ pub(crate) fn on_row(d: Desk, row: &[u8], out: &mut [u8]) -> Desk {
     let call = rows::call_of(row, b"desk");
     match call {
         Call::Start | Call::Tick | Call::Queue | Call::Set | Call::Key => {
-            return stepped(d, call, row, out);
+            return stepped(step(d, call, row), row, out);
         }
         Call::Hear => return hear(d, row, out),
         Call::Alter => return alter(d, row, out),
-        Call::Show => return whole(d, row, out),
+        Call::Show => whole(d, row, out),
         Call::Offer | Call::None => show::only(out, row),
         Call::Elsewhere => {}
     }

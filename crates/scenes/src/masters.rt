@@ -2,7 +2,6 @@
 use crate::rows;
 use crate::rows::Call;
 use crate::show;
-use characters::slices::part;
 use clock::counters::ToSend;
 use master::answers::Answer;
 use master::state::Master;
@@ -13,27 +12,41 @@ use text::putting::put_text;
 use words::fields::word_value;
 use words::items::put_record;
 
-// The state: line, number to send, sendings made.
-fn end(out: &mut [u8], at: usize, good: bool, number: u8, count: u8) {
-    let a = show::line(out, at, good);
-    let b = show::number(out, a, b", number ", number as u64);
-    let c = show::number(out, b, b", count ", count as u64);
+// What every row of the master ends with: line, number to send, sendings made.
+struct Numbers {
+    good: bool,
+    number: u8,
+    count: u8,
+}
+
+fn numbers_of(m: Master) -> Numbers {
+    let number = m.number;
+    Numbers {
+        good: m.good,
+        number: number.0,
+        count: m.count,
+    }
+}
+
+fn end(out: &mut [u8], at: usize, n: Numbers) {
+    let a = show::line(out, at, n.good);
+    let b = show::number(out, a, b", number ", n.number as u64);
+    let c = show::number(out, b, b", count ", n.count as u64);
     show::end(out, c);
 }
 
-// What a call did, and what was sent.
-fn did(out: &mut [u8], row: &[u8], answer: Answer, sent: &[u8; 128]) -> usize {
+// What a call did, what was sent, and the state.
+fn did(out: &mut [u8], row: &[u8], answer: Answer, sent: &[u8; 128], n: Numbers) {
     let a = show::begin(out, row);
     let b = put_answer(out, a, answer);
-    show::output(out, b, sent)
+    let c = show::output(out, b, sent);
+    end(out, c, n);
 }
 
 fn told(step: Step, row: &[u8], sent: &[u8; 128], out: &mut [u8]) -> Master {
     let master = step.master;
     let answer = step.answer;
-    let number = master.number;
-    let a = did(out, row, answer, sent);
-    end(out, a, master.good, number.0, master.count);
+    did(out, row, answer, sent, numbers_of(master));
     master
 }
 
@@ -46,27 +59,28 @@ fn start(row: &[u8], out: &mut [u8]) -> Master {
 fn offer(m: Master, row: &[u8], out: &mut [u8]) -> Master {
     let room = rows::room(row);
     let rec = rows::record(row, 4);
-    let time = word_value(row, 2);
     let mut sent = [b'#'; 128];
-    let step = m.offer(time, rec, &mut sent[..room]);
+    let step = m.offer(word_value(row, 2), rec, &mut sent[..room]);
     told(step, row, &sent, out)
 }
 
 fn tick(m: Master, row: &[u8], out: &mut [u8]) -> Master {
     let room = rows::room(row);
-    let time = word_value(row, 2);
     let mut sent = [b'#'; 128];
-    let step = m.tick(time, &mut sent[..room]);
+    let step = m.tick(word_value(row, 2), &mut sent[..room]);
     told(step, row, &sent, out)
 }
 
 fn hear(m: Master, row: &[u8], out: &mut [u8]) -> Master {
     let room = rows::room(row);
-    let frame = rows::heard(row, 4);
-    let bytes = frame.bytes;
-    let time = word_value(row, 2);
+    let mut bytes = [0u8; 256];
+    let n = rows::heard(row, 4, &mut bytes);
     let mut sent = [b'#'; 128];
-    let step = m.hear(time, part(&bytes, 0, frame.n), &mut sent[..room]);
+    let step = m.hear(
+        word_value(row, 2),
+        rows::first(&bytes, n),
+        &mut sent[..room],
+    );
     told(step, row, &sent, out)
 }
 
@@ -84,17 +98,28 @@ fn altered(m: Master, field: usize, value: u32) -> Master {
     e
 }
 
-fn alter(m: Master, row: &[u8], out: &mut [u8]) -> Master {
-    let master = altered(m, rows::altered_field(row), word_value(row, 3));
-    let number = master.number;
+fn alter_row(out: &mut [u8], row: &[u8], n: Numbers) {
     let a = show::begin(out, row);
     let b = put_text(out, a, b"altered");
-    end(out, b, master.good, number.0, master.count);
+    end(out, b, n);
+}
+
+fn alter(m: Master, row: &[u8], out: &mut [u8]) -> Master {
+    let master = altered(m, rows::altered_field(row), word_value(row, 3));
+    alter_row(out, row, numbers_of(master));
     master
 }
 
 // The line and T0's start; while it is not free, T2's start and what is sent.
-fn numbers(out: &mut [u8], at: usize, line: u8, t0: u32, count: u8, t2: u32, rec: Record) -> usize {
+fn state_numbers(
+    out: &mut [u8],
+    at: usize,
+    line: u8,
+    t0: u32,
+    count: u8,
+    t2: u32,
+    rec: Record,
+) -> usize {
     let a = show::number(out, at, b"line ", line as u64);
     let b = show::number(out, a, b", T0 ", t0 as u64);
     if count == 0 {
@@ -105,13 +130,17 @@ fn numbers(out: &mut [u8], at: usize, line: u8, t0: u32, count: u8, t2: u32, rec
     put_record(out, d, rec)
 }
 
-fn whole(m: Master, row: &[u8], out: &mut [u8]) -> Master {
-    let number = m.number;
+fn whole(m: Master, row: &[u8], out: &mut [u8]) {
     let rec = m.rec;
     let a = show::begin(out, row);
-    let b = numbers(out, a, m.line, m.t0, m.count, m.t2, rec);
-    end(out, b, m.good, number.0, m.count);
-    m
+    let b = state_numbers(out, a, m.line, m.t0, m.count, m.t2, rec);
+    end(out, b, numbers_of(m));
+}
+
+// Before any start the master is the blank state of line 0.
+pub(crate) fn blank() -> Master {
+    let step = Master::start(0, 0);
+    step.master
 }
 
 // The master behind a row.
@@ -122,7 +151,7 @@ pub(crate) fn on_row(m: Master, row: &[u8], out: &mut [u8]) -> Master {
         Call::Tick => return tick(m, row, out),
         Call::Hear => return hear(m, row, out),
         Call::Alter => return alter(m, row, out),
-        Call::Show => return whole(m, row, out),
+        Call::Show => whole(m, row, out),
         Call::Queue | Call::Set | Call::Key | Call::None => show::only(out, row),
         Call::Elsewhere => {}
     }

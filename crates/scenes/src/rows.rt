@@ -1,5 +1,6 @@
 // The words of a row, and what they mean.
 ghost use Prim.Native.Nat.{_≤_};
+use characters::slices::part;
 use records::records::Record;
 use text::frames::put_meant;
 use words::fields::from_field;
@@ -30,16 +31,14 @@ pub(crate) fn record(s: &[u8], at: usize) -> Record {
     record_said(from_field(s, b' ', at))
 }
 
-// The bytes that a row's text means from the word of this number on.
-pub(crate) struct Frame {
-    pub(crate) bytes: [u8; 256],
-    pub(crate) n: usize,
+// The bytes that a row's text means from the word of this number on go to the front of an array; how many they are.
+pub(crate) fn heard(s: &[u8], at: usize, bytes: &mut [u8; 256]) -> usize {
+    put_meant(bytes, 0, from_field(s, b' ', at))
 }
 
-pub(crate) fn heard(s: &[u8], at: usize) -> Frame {
-    let mut bytes = [0u8; 256];
-    let n = put_meant(&mut bytes, 0, from_field(s, b' ', at));
-    Frame { bytes, n }
+// The first n of them.
+pub(crate) fn first(bytes: &[u8; 256], n: usize) -> &[u8] {
+    part(bytes, 0, n)
 }
 
 // The calls that rows name; Elsewhere is a row of another end.

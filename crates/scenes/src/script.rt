@@ -5,10 +5,9 @@ use crate::show;
 use characters::slices::byte_at;
 use characters::slices::part;
 use clock::clock::elapsed;
-use desk::state::Desk;
-use libc::STDIN_FILENO;
-use master::state::Master;
 use std::num::wrapping_add_usize;
+use stdio::input::Got;
+use stdio::input::read_more;
 use text::numbers::put_number;
 use words::fields::word;
 use words::fields::word_place;
@@ -51,10 +50,12 @@ fn refilled(input: Input, n: usize) -> Input {
     next
 }
 
-// Reads a piece; 0 where there is none left.
+// Reads a piece; 0 where there is none left, or where the read fails.
 fn read_piece(buf: &mut [u8]) -> usize {
-    let got = libc::read(STDIN_FILENO, buf);
-    io::count(got, buf)
+    let Got::Bytes(got) = read_more(buf, 0, b"scenes: reading") else {
+        return 0;
+    };
+    got
 }
 
 // A byte more of the row, or a piece more of the input.
@@ -84,6 +85,17 @@ fn next_row(input: Input, buf: &mut [u8], row: &mut [u8]) -> Input {
     next
 }
 
+fn first_row(buf: &mut [u8], row: &mut [u8]) -> Input {
+    let input = Input {
+        at: 0,
+        end: 0,
+        filled: 0,
+        whole: false,
+        more: true,
+    };
+    next_row(input, buf, row)
+}
+
 fn elapsed_row(row: &[u8], out: &mut [u8]) {
     let n = elapsed(word_value(row, 1), word_value(row, 2));
     let a = show::begin(out, row);
@@ -100,33 +112,17 @@ fn others(row: &[u8], out: &mut [u8]) {
     }
 }
 
-// The master behind a row; what is neither end's is told here too.
-fn on_rest(m: Master, row: &[u8], out: &mut [u8]) -> Master {
-    others(row, out);
-    masters::on_row(m, row, out)
-}
-
-// Row after row. Before any start both ends are the blank states of line 0.
+// Row after row; what is neither end's is told first.
 pub(crate) fn run(buf: &mut [u8], row: &mut [u8], out: &mut [u8]) {
-    let first = Desk::start(0);
-    let mut desk = first.desk;
-    let second = Master::start(0, 0);
-    let mut master = second.master;
+    let mut desk = desks::blank();
+    let mut master = masters::blank();
     let mut turns = u64::MAX;
-    let mut input = next_row(
-        Input {
-            at: 0,
-            end: 0,
-            filled: 0,
-            whole: false,
-            more: true,
-        },
-        buf,
-        row,
-    );
+    let mut input = first_row(buf, row);
     while turns > 0 && input.whole {
-        desk = desks::on_row(desk, part(row, 0, input.filled), out);
-        master = on_rest(master, part(row, 0, input.filled), out);
+        let said = part(row, 0, input.filled);
+        others(said, out);
+        desk = desks::on_row(desk, said, out);
+        master = masters::on_row(master, said, out);
         input = next_row(input, buf, row);
         turns = turns - 1;
     }

@@ -1,7 +1,7 @@
 // What rows print.
 use characters::slices::byte_at;
 use characters::slices::part;
-use libc::STDOUT_FILENO;
+use stdio::output::write_out;
 use text::frames::put_shown;
 use text::numbers::put_number;
 use text::putting::put_byte;
@@ -10,7 +10,7 @@ use text::putting::put_text;
 // Ends a row and writes all that it prints.
 pub(crate) fn end(out: &mut [u8], at: usize) {
     let n = put_byte(out, at, b'\n');
-    io::write_all(STDOUT_FILENO, part(out, 0, n));
+    write_out(out, n, b"scenes: writing");
 }
 
 // A row that is only said again.

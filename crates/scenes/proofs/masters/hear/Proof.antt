@@ -15,11 +15,8 @@ heard-requires c κs = search needs
 word-value-requires : tie.Need-word-value-requires
 word-value-requires c κs = search needs
 
-slice-aggregate-part : tie.Need-slice-aggregate-part
-slice-aggregate-part c = search needs
-
-part-requires : tie.Need-part-requires
-part-requires c κs = search needs
+first-requires : tie.Need-first-requires
+first-requires c κs = search needs
 
 array-borrow-prefix-sent : tie.Need-array-borrow-prefix-sent
 array-borrow-prefix-sent c = search needs
@@ -46,8 +43,7 @@ hear-spec =
     room-requires
     heard-requires
     word-value-requires
-    slice-aggregate-part
-    part-requires
+    first-requires
     array-borrow-prefix-sent
     slice-aggregate-hear
     hear-requires

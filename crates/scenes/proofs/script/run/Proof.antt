@@ -12,14 +12,14 @@ Inv-loop buf₀ row₀ out₀ desk₀ master₀ turns₀ input₀ buf row out de
 abbrev μ-loop : tie.MeasureT-loop
 μ-loop buf₀ row₀ out₀ desk₀ master₀ turns₀ input₀ buf row out desk master turns input = turns
 
-start-requires : tie.Need-start-requires Inv-loop μ-loop
-start-requires c κs = search needs
+blank-requires : tie.Need-blank-requires Inv-loop μ-loop
+blank-requires c κs = search needs
 
-start-requires-2 : tie.Need-start-requires-2 Inv-loop μ-loop
-start-requires-2 c κs = search needs
+blank-requires-2 : tie.Need-blank-requires-2 Inv-loop μ-loop
+blank-requires-2 c κs = search needs
 
-next-row-requires : tie.Need-next-row-requires Inv-loop μ-loop
-next-row-requires c κs = search needs
+first-row-requires : tie.Need-first-row-requires Inv-loop μ-loop
+first-row-requires c κs = search needs
 
 loop-holds : tie.Need-loop-holds Inv-loop μ-loop
 loop-holds c = search needs
@@ -27,35 +27,36 @@ loop-holds c = search needs
 part-requires : tie.Need-part-requires Inv-loop μ-loop
 part-requires c κs = search needs
 
+others-requires : tie.Need-others-requires Inv-loop μ-loop
+others-requires c κs = search needs
+
 on-row-requires : tie.Need-on-row-requires Inv-loop μ-loop
 on-row-requires c κs = search needs
 
-part-requires-2 : tie.Need-part-requires-2 Inv-loop μ-loop
-part-requires-2 c κs = search needs
+on-row-requires-2 : tie.Need-on-row-requires-2 Inv-loop μ-loop
+on-row-requires-2 c κs = search needs
 
-on-rest-requires : tie.Need-on-rest-requires Inv-loop μ-loop
-on-rest-requires c κs = search needs
-
-next-row-requires-2 : tie.Need-next-row-requires-2 Inv-loop μ-loop
-next-row-requires-2 c κs = search needs
+next-row-requires : tie.Need-next-row-requires Inv-loop μ-loop
+next-row-requires c κs = search needs
 
 sub-turns : tie.Need-sub-turns Inv-loop μ-loop
 sub-turns c =
-    let t = c .before .before .before .before .before .before .before .before .before .before .before .before .before .before .before .before .before .before .before .before in
+    let t = c .before .before .before .before .before .before .before .before .before .before .before .before .before .before .before .before .before .before .before .before .before .before in
     omega (arith, t .loop-test .taken)
 
 loop-less : tie.Need-loop-less Inv-loop μ-loop
 loop-less c =
-    let t = c .before .before .before .before .before .before .before .before .before .before .before .before .before .before .before .before .before .before .before .before in
+    let t = c .before .before .before .before .before .before .before .before .before .before .before .before .before .before .before .before .before .before .before .before .before .before in
     omega (arith, t .loop-test .taken)
 
 loop-again : tie.Need-loop-again Inv-loop μ-loop
 loop-again c =
-    let k = c .before .before .before .before .next-row2 .kept in
-    let r = c .before .before .before .before .before .before .before .before .before .on-rest .kept in
-    let d = c .before .before .before .before .before .before .before .before .before .before .before .before .before .before .before .on-row .kept in
-    let i = c .before .before .before .before .before .before .before .before .before .before .before .before .before .before .before .before .before .before .before .before .before .loop .inv in
-    (omega (arith, k, i), omega (arith, k, i), omega (arith, r, d, i))
+    let n = c .before .before .before .before .next-row .kept in
+    let m = c .before .before .before .before .before .before .before .before .before .on-row2 .kept in
+    let d = c .before .before .before .before .before .before .before .before .before .before .before .before .before .on-row .kept in
+    let o = c .before .before .before .before .before .before .before .before .before .before .before .before .before .before .before .before .before .others .kept in
+    let i = c .before .before .before .before .before .before .before .before .before .before .before .before .before .before .before .before .before .before .before .before .before .before .before .loop .inv in
+    (omega (arith, n, i), omega (arith, n, i), omega (arith, m, d, o, i))
 
 same-length : tie.Need-same-length Inv-loop μ-loop
 same-length c = search needs
@@ -87,15 +88,15 @@ run-spec =
     (tie.spec
     Inv-loop
     μ-loop
-    start-requires
-    start-requires-2
-    next-row-requires
+    blank-requires
+    blank-requires-2
+    first-row-requires
     loop-holds
     part-requires
+    others-requires
     on-row-requires
-    part-requires-2
-    on-rest-requires
-    next-row-requires-2
+    on-row-requires-2
+    next-row-requires
     sub-turns
     loop-less
     loop-again
