@@ -4,7 +4,7 @@ use native.Mathlib.Omega.{arith}
 use lib.ListN.{length, length-append}
 use lib.Seq.{take-all}
 use Rattle.laws.specs.Numerals.{numeralOn}
-use Rattle.master.specs.State.{blank, inRanges}
+use Rattle.master.specs.State.{unstarted, inRanges}
 use Rattle.master.specs.declared.state.Master.{Master}
 use Rattle.blocks.specs.Numbers.{fourBytes}
 use Rattle.blocks.specs.Record.{recordLength, recordBytes}
@@ -35,10 +35,10 @@ master-again m t =
     )
 
 pub master-back : MasterBack
-master-back m b t h l = loads-saved masterBytes masterAt blank masterLength m b (master-again m t) l
+master-back m b t h l = loads-saved masterBytes masterAt unstarted masterLength m b (master-again m t) l
 
 pub other-masters : OtherMasters
-other-masters b h = other masterBytes masterAt blank inRanges (unfold inRanges in refl) b h
+other-masters b h = other masterBytes masterAt unstarted inRanges (unfold inRanges in refl) b h
 
 pub one-master : OneMaster
-one-master a b h e = one masterBytes masterAt blank inRanges (unfold inRanges in refl) a b h e
+one-master a b h e = one masterBytes masterAt unstarted inRanges (unfold inRanges in refl) a b h e

@@ -3,7 +3,7 @@ use mathlib.Core.List.{List, _++_}
 use Prim.Native.Nat.{ℕ, _+_, _<_, _^_}
 use lib.Dec.{eqb}
 use lib.ListN.{getD}
-use Rattle.master.specs.State.{toSend, blank, inRanges}
+use Rattle.master.specs.State.{toSend, unstarted, inRanges}
 use Rattle.master.specs.declared.state.Master.{Master}
 use Rattle.blocks.specs.Layout.{stretch, filled}
 use Rattle.states.specs.Layout.{headBytes}
@@ -32,7 +32,7 @@ masterAt b =
     }
 
 abbrev pub loadOf : List ℕ → Master
-loadOf b = loaded masterBytes masterAt blank b
+loadOf b = loaded masterBytes masterAt unstarted b
 
 abbrev pub saveOf : Master → List ℕ → List ℕ
 saveOf m b = filled masterLength (masterBytes m) b

@@ -1,6 +1,6 @@
 // A master as a block: line, good, number, count, T0's and T2's start, and its record (01 'Link rules', 'Master'; 'Numbered answers', 15).
 ghost use mathlib.Core.Path.{_≡_};
-ghost use Rattle.master.specs.State.{blank};
+ghost use Rattle.master.specs.State.{unstarted};
 ghost use Rattle.words.specs.Fields.{sameText};
 ghost use Rattle.text.specs.Putting.{puts};
 ghost use Rattle.states.specs.Masters.{masterBytes, masterAt, loadOf, saveOf};
@@ -55,20 +55,20 @@ fn is_block(block: &[u8], m: Master) -> bool
     same(&again, block)
 }
 
-// The blank master of line 0, which every call refuses 15.
-fn blank() -> Master
-    ensures { λ r. ⌜ r ≡ blank ⌝ }
+// The unstarted master of line 0, which every call refuses 15.
+fn unstarted() -> Master
+    ensures { λ r. ⌜ r ≡ unstarted ⌝ }
 {
     let step = Master::start(0, 0);
     step.master
 }
 
-// The master of a block; the blank one where the bytes are no master's.
+// The master of a block; the unstarted one where the bytes are no master's.
 pub fn load(block: &[u8]) -> Master
     ensures { λ r. ⌜ r ≡ loadOf (now (block .entry)) ⌝ }
 {
     let m = master_at(block);
-    if is_block(block, m) { m } else { blank() }
+    if is_block(block, m) { m } else { unstarted() }
 }
 
 // Fills a block of just its length with a master; any other stays as it was.
