@@ -191,7 +191,8 @@ fn exchanged(random: &mut Random, telegram: &mut [u8]) {
     }
 }
 
-fn wrong_count(random: &mut Random, telegram: &mut [u8]) {
+/// Writes a count that may be wrong into a telegram.
+pub fn wrong_count(random: &mut Random, telegram: &mut [u8]) {
     let digits = match random.below(4) {
         0 => [b' ', random.one_of(b"0123456789")],
         1 => *b"0A",
