@@ -1,10 +1,9 @@
 //! The desk's calls on a block: what each answers, and the bytes it leaves.
 
 use super::{fill, line_in, outcome, refused, room, send};
-use crate::blocks::{self, blank_places, desk_block, desk_in, places, record_in};
+use crate::blocks::{self, blank_places, desk_block, desk_in, places};
 use crate::desk::{Desk, Heard, Source};
 use crate::face::Answer;
-use crate::records::Record;
 
 /// Makes a call on the desk of a block, and puts it back where the call is not refused.
 pub(super) fn on_desk(
@@ -22,21 +21,6 @@ pub(super) fn on_desk(
             answer
         }
         Err(refusal) => refused(refusal, 0),
-    }
-}
-
-/// A record that the panel gives: 15 of the state comes before what is wrong with its block.
-pub(super) fn panel(
-    desk: &mut Desk,
-    block: &[u8],
-    put: fn(&mut Desk, Record) -> Result<(), u8>,
-) -> Result<Answer, u8> {
-    let given = record_in(block);
-    let record = given.clone().unwrap_or(Record::with(b'A', 0));
-    match (put(desk, record), given) {
-        (Err(15), _) => Err(15),
-        (_, Err(refusal)) => Err(refusal),
-        (done, Ok(_)) => done.map(|()| outcome(1)),
     }
 }
 

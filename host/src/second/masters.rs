@@ -1,10 +1,9 @@
 //! The master's calls on a block: what each answers, and the bytes it leaves.
 
 use super::{fill, line_in, outcome, refused, send};
-use crate::blocks::{self, master_block, master_in, record_in};
+use crate::blocks::{self, master_block, master_in};
 use crate::face::Answer;
 use crate::master::{Master, Told, Why};
-use crate::records::Record;
 
 pub(super) fn start(state: &mut [u8], line: u32, time: u32) -> Answer {
     let started = line_in(line).filter(|_| state.len() == blocks::MASTER);
@@ -70,17 +69,5 @@ pub(super) fn on_master(
     Answer {
         written: send(out, &bytes),
         ..answer
-    }
-}
-
-/// An offer: 15, 14 and 16 come before what is wrong with the record's block.
-pub(super) fn offer(master: &mut Master, time: u32, room: usize, block: &[u8]) -> (Told, Vec<u8>) {
-    let refusal = match record_in(block) {
-        Ok(record) => return master.offer(time, room, record),
-        Err(refusal) => refusal,
-    };
-    match master.offer(time, room, Record::with(b'A', 0)) {
-        (Told::Refused(first @ (14..=16)), _) => (Told::Refused(first), Vec::new()),
-        _ => (Told::Refused(refusal), Vec::new()),
     }
 }

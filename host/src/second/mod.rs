@@ -6,7 +6,7 @@ mod masters;
 
 use crate::blocks::{self, record_block, record_in};
 use crate::cutting::{next_telegram, Cutter, Heard as Item};
-use crate::desk::{Desk, ROOM};
+use crate::desk::ROOM;
 use crate::face::{Answer, Call, Face, Lengths};
 use crate::reading::{form_of, read, LONGEST};
 use crate::records::Record;
@@ -43,6 +43,21 @@ fn fill(block: &mut [u8], record: &Record) -> u32 {
     1
 }
 
+/// What a block means to a call that takes a record. 12 comes before 13, so one with a byte that
+/// no value uses is a record out of its range, and one of no type is a record that no end sends.
+fn meant(block: &[u8]) -> Record {
+    record_in(block).unwrap_or_else(|refusal| match (refusal, block) {
+        (13, [type_byte, values @ ..]) => Record {
+            type_byte: *type_byte,
+            values: vec![u32::MAX; values.len()],
+        },
+        _ => Record {
+            type_byte: 0,
+            values: Vec::new(),
+        },
+    })
+}
+
 /// Puts bytes to the front of the output; how many they are.
 fn send(out: &mut [u8], bytes: &[u8]) -> u64 {
     let front = out.get_mut(..bytes.len()).expect("the room is checked");
@@ -71,10 +86,7 @@ fn writing(line: u32, block: &[u8], number: u32, out: &mut [u8]) -> Answer {
     let Some(line) = line_in(line) else {
         return refused(15, 0);
     };
-    let record = match record_in(block) {
-        Ok(record) => record,
-        Err(refusal) => return refused(refusal, 0),
-    };
+    let record = meant(block);
     if form_of(line, record.type_byte).is_none() {
         return refused(12, 0);
     }
@@ -157,8 +169,14 @@ impl Face for Second {
                 let lost = desk.tick(time)?.into();
                 Ok(Answer { lost, ..outcome(1) })
             }),
-            Call::DeskQueue(block) => on_desk(state, |desk| desks::panel(desk, block, Desk::queue)),
-            Call::DeskSet(block) => on_desk(state, |desk| desks::panel(desk, block, Desk::set)),
+            Call::DeskQueue(block) => on_desk(state, |desk| {
+                desk.queue(meant(block))?;
+                Ok(outcome(1))
+            }),
+            Call::DeskSet(block) => on_desk(state, |desk| {
+                desk.set(meant(block))?;
+                Ok(outcome(1))
+            }),
             Call::DeskKey(key) => on_desk(state, |desk| {
                 // a key wider than a byte is no position, as 0 is none
                 desk.turn_key(u8::try_from(key).unwrap_or(0))?;
@@ -167,7 +185,7 @@ impl Face for Second {
             Call::DeskHear(time, frame) => desks::hear(state, time, frame, out, record),
             Call::MasterStart(line, time) => masters::start(state, line, time),
             Call::MasterOffer(time, block) => on_master(state, out, record, |master, room| {
-                masters::offer(master, time, room, block)
+                master.offer(time, room, meant(block))
             }),
             Call::MasterTick(time) => {
                 on_master(state, out, record, |master, room| master.tick(time, room))
