@@ -6,6 +6,7 @@ use crate::demo::Ends;
 use crate::desk::{Heard, Source, ROOM};
 use crate::face::{Answer, Call, Face};
 use crate::master::{Told, Why};
+use crate::numbers::*;
 use crate::records::Record;
 use crate::script::{Bench, Row};
 use crate::words::{done, heard, meant, output, told};
@@ -54,18 +55,18 @@ impl BothEnds<'_> {
     fn heard(&self, answer: Answer) -> Heard {
         let contents = (answer.contents as u8, answer.place as usize);
         let source = match answer.detail {
-            1 => Source::Requested,
-            2 => Source::Queue,
-            3 => Source::Key(self.out[6]),
-            4 => Source::Panel(self.filled()),
-            5 => Source::Contents(contents.0, contents.1),
-            6 => Source::NotMaster,
+            FROM_REQUEST => Source::Requested,
+            FROM_QUEUE => Source::Queue,
+            FROM_KEY => Source::Key(self.out[6]),
+            FROM_PANEL => Source::Panel(self.filled()),
+            FROM_CONTENTS => Source::Contents(contents.0, contents.1),
+            FROM_DIRECTION => Source::NotMaster,
             _ => Source::NothingSet,
         };
         match answer.outcome {
-            2 => Heard::Silent(contents.0, contents.1),
-            3 => Heard::Fault,
-            4 => Heard::Repeat,
+            DESK_SILENT => Heard::Silent(contents.0, contents.1),
+            DESK_FAULT => Heard::Fault,
+            DESK_REPEAT => Heard::Repeat,
             _ => Heard::Handled(source),
         }
     }
@@ -77,18 +78,20 @@ impl BothEnds<'_> {
             (answer.contents as u8, answer.place as usize),
         );
         match (answer.outcome, answer.detail) {
-            (1, _) => Told::Nothing,
-            (2, 1) => Told::Sent(count),
-            (2, 2) => Told::Again(count),
-            (2, _) => Told::Polled(count),
-            (3, _) => Told::Answered(self.filled(), count),
-            (4, _) if answer.record == 1 => Told::OtherKind(Ok(self.filled()), count),
-            (4, _) => Told::OtherKind(Err(contents), count),
-            (5, 1) => Told::Silence(count),
-            (5, _) => Told::Rejected(count),
-            (_, 1) => Told::Ignored(Why::Free),
-            (_, 2) => Told::Ignored(Why::RunOut),
-            (_, 3) => Told::Ignored(Why::Refused(contents.0, contents.1)),
+            (MASTER_NOTHING, _) => Told::Nothing,
+            (MASTER_SENT, SENT_OFFERED) => Told::Sent(count),
+            (MASTER_SENT, SENT_AGAIN) => Told::Again(count),
+            (MASTER_SENT, _) => Told::Polled(count),
+            (MASTER_ANSWERED, _) => Told::Answered(self.filled(), count),
+            (MASTER_OTHER_KIND, _) if answer.record == 1 => {
+                Told::OtherKind(Ok(self.filled()), count)
+            }
+            (MASTER_OTHER_KIND, _) => Told::OtherKind(Err(contents), count),
+            (MASTER_GIVEN_UP, GIVEN_UP_SILENCE) => Told::Silence(count),
+            (MASTER_GIVEN_UP, _) => Told::Rejected(count),
+            (_, IGNORED_FREE) => Told::Ignored(Why::Free),
+            (_, IGNORED_RUN_OUT) => Told::Ignored(Why::RunOut),
+            (_, IGNORED_CONTENTS) => Told::Ignored(Why::Refused(contents.0, contents.1)),
             _ => Told::Ignored(Why::OtherNumber),
         }
     }
@@ -112,8 +115,8 @@ impl BothEnds<'_> {
         };
         let lost = answer.lost == 1;
         let did = match (answer.refusal, answer.outcome) {
-            (0, 1) if lost => "line noted lost".into(),
-            (0, 1) => done(Ok(())),
+            (0, DESK_DONE) if lost => "line noted lost".into(),
+            (0, DESK_DONE) => done(Ok(())),
             (0, _) => {
                 let noted = if lost { "line noted lost, " } else { "" };
                 let sent = output(self.sent(answer));

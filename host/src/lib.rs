@@ -1,5 +1,6 @@
 //! A second version of reading, cutting, listing and the two ends, written from document 01
-//! alone, with makers of telegrams, captures and scripts to try the project's programs with.
+//! alone, and of the C face, written from its header; with makers of telegrams, captures, scripts
+//! and calls to try the project's programs and its library with.
 
 pub mod blocks;
 pub mod both;
@@ -17,6 +18,7 @@ pub mod library;
 pub mod listing;
 pub mod making;
 pub mod master;
+pub mod numbers;
 pub mod program;
 pub mod random;
 pub mod reading;

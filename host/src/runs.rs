@@ -9,6 +9,7 @@ use crate::comparing::{in_chunks, Size, Tally};
 use crate::demand::{judge, supposed, Item};
 use crate::face::{Answer, Call, Face};
 use crate::making::{any_form, noise};
+use crate::numbers::*;
 use crate::random::Random;
 use crate::reading::read;
 use crate::records::data_type;
@@ -165,7 +166,7 @@ impl Run<'_> {
         let answer = self.ends.on_desk(Call::DeskHear(self.now, frame));
         let bytes = self.ends.sent(answer).to_vec();
         self.noted(answer);
-        if answer.outcome == 5 {
+        if answer.outcome == DESK_HANDLED {
             self.history.push(Item::Handled(self.sent, visible(&bytes)));
         }
         self.history.push(Item::Over(self.sent));
@@ -178,11 +179,11 @@ impl Run<'_> {
     fn master_did(&mut self, answer: Answer, heard: &[u8]) {
         let count = answer.count as usize;
         match (answer.outcome, answer.detail) {
-            (2, sending) => {
+            (MASTER_SENT, sending) => {
                 self.lose();
-                self.sent += usize::from(sending != 2);
+                self.sent += usize::from(sending != SENT_AGAIN);
                 let (sent, bytes) = (self.sent, self.ends.sent(answer).to_vec());
-                self.history.push(if sending == 2 {
+                self.history.push(if sending == SENT_AGAIN {
                     Item::Again(sent)
                 } else {
                     Item::Sent(sent)
@@ -192,10 +193,11 @@ impl Run<'_> {
                     bytes,
                 });
             }
-            (3 | 4, _) => self
-                .history
-                .push(Item::Answered(self.sent, visible(heard), count)),
-            (5, _) => {
+            (MASTER_ANSWERED | MASTER_OTHER_KIND, _) => {
+                self.history
+                    .push(Item::Answered(self.sent, visible(heard), count))
+            }
+            (MASTER_GIVEN_UP, _) => {
                 self.lose();
                 self.history.push(Item::GivenUp(self.sent, count));
             }

@@ -197,7 +197,7 @@ fn under_valgrind() {
         &mut command,
         Size {
             chunks: 1,
-            divided: 50,
+            divided: 20,
         },
     );
     let said = String::from_utf8_lossy(&output.stderr);

@@ -4,6 +4,7 @@ use super::{inputs, Lent, Pair};
 use crate::blocks::GATHERER;
 use crate::face::Call;
 use crate::making::{capture, noise};
+use crate::numbers::TELEGRAM;
 use crate::random::Random;
 
 /// Cuts so many streams in both ways.
@@ -52,7 +53,7 @@ fn by_step(pair: &mut Pair, random: &mut Random, bytes: &[u8], hits: bool) -> Ve
             damaged_step(pair, random, &state, *byte);
         }
         let answer = pair.on(Call::GathererByte(*byte), &mut state);
-        if answer.outcome == 1 {
+        if answer.outcome == TELEGRAM {
             let behind = state.bytes().get(1..=answer.written as usize);
             telegrams.push(behind.unwrap_or_default().to_vec());
         }

@@ -4,6 +4,7 @@ use super::{fill, line_in, outcome, refused, room, send};
 use crate::blocks::{self, blank_places, desk_block, desk_in, places};
 use crate::desk::{Desk, Heard, Source};
 use crate::face::Answer;
+use crate::numbers::*;
 
 /// Makes a call on the desk of a block, and puts it back where the call is not refused.
 pub(super) fn on_desk(
@@ -16,7 +17,8 @@ pub(super) fn on_desk(
     let before = desk.queue.clone();
     match act(&mut desk) {
         Ok(answer) => {
-            desk.queue = places(&before, answer.outcome == 5 && answer.detail == 2, &desk);
+            let left = (answer.outcome, answer.detail) == (DESK_HANDLED, FROM_QUEUE);
+            desk.queue = places(&before, left, &desk);
             state.copy_from_slice(&desk_block(&desk));
             answer
         }
@@ -32,37 +34,37 @@ pub(super) fn start(state: &mut [u8], line: u32) -> Answer {
     let (mut desk, _) = Desk::start(line);
     desk.queue = blank_places();
     state.copy_from_slice(&desk_block(&desk));
-    outcome(1)
+    outcome(DESK_DONE)
 }
 
 /// What came of a frame that the desk heard.
 fn came_of(heard: Heard, block: &mut [u8]) -> Answer {
     let handled = |detail| Answer {
         detail,
-        ..outcome(5)
+        ..outcome(DESK_HANDLED)
     };
     match heard {
         Heard::Silent(refusal, place) => Answer {
             contents: refusal.into(),
             place: place as u64,
-            ..outcome(2)
+            ..outcome(DESK_SILENT)
         },
-        Heard::Fault => outcome(3),
-        Heard::Repeat => outcome(4),
-        Heard::Handled(Source::Requested) => handled(1),
-        Heard::Handled(Source::Queue) => handled(2),
-        Heard::Handled(Source::Key(_)) => handled(3),
+        Heard::Fault => outcome(DESK_FAULT),
+        Heard::Repeat => outcome(DESK_REPEAT),
+        Heard::Handled(Source::Requested) => handled(FROM_REQUEST),
+        Heard::Handled(Source::Queue) => handled(FROM_QUEUE),
+        Heard::Handled(Source::Key(_)) => handled(FROM_KEY),
         Heard::Handled(Source::Panel(record)) => Answer {
             record: fill(block, &record),
-            ..handled(4)
+            ..handled(FROM_PANEL)
         },
         Heard::Handled(Source::Contents(refusal, place)) => Answer {
             contents: refusal.into(),
             place: place as u64,
-            ..handled(5)
+            ..handled(FROM_CONTENTS)
         },
-        Heard::Handled(Source::NotMaster) => handled(6),
-        Heard::Handled(Source::NothingSet) => handled(7),
+        Heard::Handled(Source::NotMaster) => handled(FROM_DIRECTION),
+        Heard::Handled(Source::NothingSet) => handled(FROM_NOTHING),
     }
 }
 

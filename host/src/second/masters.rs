@@ -4,6 +4,7 @@ use super::{fill, line_in, outcome, refused, send};
 use crate::blocks::{self, master_block, master_in};
 use crate::face::Answer;
 use crate::master::{Master, Told, Why};
+use crate::numbers::*;
 
 pub(super) fn start(state: &mut [u8], line: u32, time: u32) -> Answer {
     let started = line_in(line).filter(|_| state.len() == blocks::MASTER);
@@ -11,7 +12,7 @@ pub(super) fn start(state: &mut [u8], line: u32, time: u32) -> Answer {
         return refused(15, 0);
     };
     state.copy_from_slice(&master_block(&Master::start(line, time).0));
-    outcome(1)
+    outcome(MASTER_NOTHING)
 }
 
 /// What a call of the master did.
@@ -22,6 +23,7 @@ fn did(told: Told, block: &mut [u8]) -> Answer {
         count: count.into(),
         ..Answer::default()
     };
+    let ignored = |detail| told_of(MASTER_IGNORED, detail, 0);
     let contents = |(refusal, place): (u8, usize), answer| Answer {
         contents: refusal.into(),
         place: place as u64,
@@ -29,25 +31,29 @@ fn did(told: Told, block: &mut [u8]) -> Answer {
     };
     match told {
         Told::Refused(refusal) => refused(refusal, 0),
-        Told::Nothing => outcome(1),
-        Told::Sent(count) => told_of(2, 1, count),
-        Told::Again(count) => told_of(2, 2, count),
-        Told::Polled(count) => told_of(2, 3, count),
+        Told::Nothing => outcome(MASTER_NOTHING),
+        Told::Sent(count) => told_of(MASTER_SENT, SENT_OFFERED, count),
+        Told::Again(count) => told_of(MASTER_SENT, SENT_AGAIN, count),
+        Told::Polled(count) => told_of(MASTER_SENT, SENT_POLL, count),
         Told::Answered(record, count) => Answer {
             record: fill(block, &record),
-            ..told_of(3, 0, count)
+            ..told_of(MASTER_ANSWERED, 0, count)
         },
         Told::OtherKind(Ok(record), count) => Answer {
             record: fill(block, &record),
-            ..told_of(4, 0, count)
+            ..told_of(MASTER_OTHER_KIND, 0, count)
         },
-        Told::OtherKind(Err(refusal), count) => contents(refusal, told_of(4, 0, count)),
-        Told::Silence(count) => told_of(5, 1, count),
-        Told::Rejected(count) => told_of(5, 2, count),
-        Told::Ignored(Why::Free) => told_of(6, 1, 0),
-        Told::Ignored(Why::RunOut) => told_of(6, 2, 0),
-        Told::Ignored(Why::Refused(refusal, place)) => contents((refusal, place), told_of(6, 3, 0)),
-        Told::Ignored(Why::OtherNumber) => told_of(6, 4, 0),
+        Told::OtherKind(Err(refusal), count) => {
+            contents(refusal, told_of(MASTER_OTHER_KIND, 0, count))
+        }
+        Told::Silence(count) => told_of(MASTER_GIVEN_UP, GIVEN_UP_SILENCE, count),
+        Told::Rejected(count) => told_of(MASTER_GIVEN_UP, GIVEN_UP_REJECTED, count),
+        Told::Ignored(Why::Free) => ignored(IGNORED_FREE),
+        Told::Ignored(Why::RunOut) => ignored(IGNORED_RUN_OUT),
+        Told::Ignored(Why::Refused(refusal, place)) => {
+            contents((refusal, place), ignored(IGNORED_CONTENTS))
+        }
+        Told::Ignored(Why::OtherNumber) => ignored(IGNORED_OTHER_NUMBER),
     }
 }
 

@@ -8,6 +8,7 @@ use crate::blocks::{self, record_block, record_in};
 use crate::cutting::{next_telegram, Cutter, Heard as Item};
 use crate::desk::ROOM;
 use crate::face::{Answer, Call, Face, Lengths};
+use crate::numbers::{DESK_DONE, TELEGRAM};
 use crate::reading::{form_of, read, LONGEST};
 use crate::records::Record;
 use desks::on_desk;
@@ -119,9 +120,9 @@ fn gathering(state: &mut [u8], item: Item) -> Answer {
     match ended {
         Some(_) => Answer {
             written,
-            ..outcome(1)
+            ..outcome(TELEGRAM)
         },
-        None => outcome(0),
+        None => Answer::default(),
     }
 }
 
@@ -130,9 +131,9 @@ fn searching(bytes: &[u8], from: usize) -> Answer {
         Some((offset, telegram)) => Answer {
             place: offset as u64,
             written: telegram.len() as u64,
-            ..outcome(1)
+            ..outcome(TELEGRAM)
         },
-        None => outcome(0),
+        None => Answer::default(),
     }
 }
 
@@ -159,7 +160,7 @@ impl Face for Second {
             Call::GathererStart if state.len() != blocks::GATHERER => refused(14, 0),
             Call::GathererStart => {
                 state.fill(0);
-                outcome(0)
+                Answer::default()
             }
             Call::GathererByte(byte) => gathering(state, Item::Byte(byte)),
             Call::GathererHit => gathering(state, Item::Hit),
@@ -167,20 +168,23 @@ impl Face for Second {
             Call::DeskStart(line) => desks::start(state, line),
             Call::DeskTick(time) => on_desk(state, |desk| {
                 let lost = desk.tick(time)?.into();
-                Ok(Answer { lost, ..outcome(1) })
+                Ok(Answer {
+                    lost,
+                    ..outcome(DESK_DONE)
+                })
             }),
             Call::DeskQueue(block) => on_desk(state, |desk| {
                 desk.queue(meant(block))?;
-                Ok(outcome(1))
+                Ok(outcome(DESK_DONE))
             }),
             Call::DeskSet(block) => on_desk(state, |desk| {
                 desk.set(meant(block))?;
-                Ok(outcome(1))
+                Ok(outcome(DESK_DONE))
             }),
             Call::DeskKey(key) => on_desk(state, |desk| {
                 // a key wider than a byte is no position, as 0 is none
                 desk.turn_key(u8::try_from(key).unwrap_or(0))?;
-                Ok(outcome(1))
+                Ok(outcome(DESK_DONE))
             }),
             Call::DeskHear(time, frame) => desks::hear(state, time, frame, out, record),
             Call::MasterStart(line, time) => masters::start(state, line, time),
