@@ -66,14 +66,17 @@ pub fn frame(random: &mut Random, line: u8, index: usize) -> Vec<u8> {
     frame
 }
 
-/// Changes one to three bytes, to any byte or to one that is near.
+/// Numbers next to the limits of what a state may hold.
+const LIMITS: [u8; 12] = [0, 1, 2, 3, 4, 8, 9, 10, 65, 66, 67, 255];
+
+/// Changes one to three bytes, to any byte, to one that is near, or to one next to a limit.
 pub fn change(random: &mut Random, bytes: &mut [u8]) {
     for _ in 0..random.from_to(1, 3) {
         let index = random.below(bytes.len());
         if let Some(byte) = bytes.get_mut(index) {
             *byte = match random.below(4) {
                 0 => *byte ^ 1 << random.below(8),
-                1 => random.below(10) as u8,
+                1 => random.one_of(&LIMITS),
                 2 => random.one_of(SET.as_bytes()),
                 _ => random.byte(),
             };

@@ -103,6 +103,17 @@ impl Pair<'_> {
     }
 }
 
+/// Leaves no chunk to the others where a processor finds a difference.
+struct Stop<'a>(&'a AtomicU64);
+
+impl Drop for Stop<'_> {
+    fn drop(&mut self) {
+        if std::thread::panicking() {
+            self.0.store(u64::MAX / 2, Ordering::Relaxed);
+        }
+    }
+}
+
 /// Runs the chunks of a part on all processors, each from its own seed, and adds what they count.
 pub fn in_chunks(size: Size, work: impl Fn(u64) -> Tally + Sync) -> Tally {
     let next = AtomicU64::new(0);
@@ -111,6 +122,7 @@ pub fn in_chunks(size: Size, work: impl Fn(u64) -> Tally + Sync) -> Tally {
     std::thread::scope(|scope| {
         for _ in 0..processors {
             scope.spawn(|| loop {
+                let _stop = Stop(&next);
                 let seed = next.fetch_add(1, Ordering::Relaxed);
                 if seed >= size.chunks {
                     return;
