@@ -42,6 +42,16 @@ impl BothEnds<'_> {
             .call(call, &mut self.master, &mut self.out, &mut self.record)
     }
 
+    /// A hearing of an end without room for what it may send.
+    pub fn cramped(&mut self, call: Call, of_desk: bool) -> Answer {
+        let state: &mut [u8] = if of_desk {
+            &mut self.desk
+        } else {
+            &mut self.master
+        };
+        self.face.call(call, state, &mut [], &mut self.record)
+    }
+
     /// What a call sent.
     pub fn sent(&self, answer: Answer) -> &[u8] {
         self.out.get(..answer.written as usize).unwrap_or_default()

@@ -148,10 +148,21 @@ impl Run<'_> {
         } else {
             flight.bytes
         };
-        if flight.to_desk {
-            self.desk_hears(&bytes);
+        let call = if flight.to_desk {
+            Call::DeskHear(self.now, &bytes)
         } else {
-            let answer = self.ends.on_master(Call::MasterHear(self.now, &bytes));
+            Call::MasterHear(self.now, &bytes)
+        };
+        // a hearing without room is refused 14, and what it was to hear is lost
+        if self.random.one_in(50) {
+            assert_eq!(self.ends.cramped(call, flight.to_desk).refusal, 14);
+            if flight.to_desk {
+                self.history.push(Item::Over(self.sent));
+            }
+        } else if flight.to_desk {
+            self.desk_hears(call);
+        } else {
+            let answer = self.ends.on_master(call);
             self.master_did(answer, &bytes);
         }
     }
@@ -162,8 +173,8 @@ impl Run<'_> {
         }
     }
 
-    fn desk_hears(&mut self, frame: &[u8]) {
-        let answer = self.ends.on_desk(Call::DeskHear(self.now, frame));
+    fn desk_hears(&mut self, call: Call) {
+        let answer = self.ends.on_desk(call);
         let bytes = self.ends.sent(answer).to_vec();
         self.noted(answer);
         if answer.outcome == DESK_HANDLED {

@@ -1,7 +1,7 @@
 //! The compiled library held against the second version through its C face, on fixed seeds:
 //! `include/in656.h` and document 01. Where the library is not linked each test says so.
 
-use host::comparing::{compare, figures, Size, Tally, GATE};
+use host::comparing::{compare, figures, Tally, GATE};
 use host::face::{library, Face};
 use host::faults::FAULTS;
 use host::runs::judge_runs;
@@ -144,13 +144,19 @@ fn runs_judged() {
     }
 }
 
-/// The program that compares, run by another one or in a changed environment.
-fn comparing(command: &mut Command, size: Size) -> Output {
-    let (chunks, divided) = (size.chunks.to_string(), size.divided.to_string());
-    command
-        .args([chunks, divided])
-        .output()
-        .expect("the program runs")
+/// What the comparing program says: with a fault switched on, and of more words.
+fn compared(fault: &str, words: &[&str]) -> Output {
+    let mut program = Command::new(env!("CARGO_BIN_EXE_compare"));
+    program.args(words).env("HOST_FAULT", fault);
+    program.output().expect("the program runs")
+}
+
+/// Holds that a fault is found, and said to be a difference of this kind.
+fn found(fault: &str, words: &[&str], kind: &str) {
+    let output = compared(fault, words);
+    let said = String::from_utf8_lossy(&output.stderr);
+    assert!(!output.status.success(), "{fault} is found");
+    assert!(said.contains(kind), "{fault} is a difference: {said}");
 }
 
 /// Each deliberate fault of the second version is found.
@@ -159,22 +165,19 @@ fn faults_found() {
     if linked("faults found").is_none() {
         return;
     }
-    let program = env!("CARGO_BIN_EXE_compare");
-    let size = Size {
-        chunks: 1,
-        divided: 10,
-    };
-    let sound = comparing(&mut Command::new(program), size);
-    assert!(
-        sound.status.success(),
-        "without a fault there is no difference"
-    );
+    assert!(compared("", &["1", "10"]).status.success(), "no fault");
     for fault in FAULTS {
-        let output = comparing(Command::new(program).env("HOST_FAULT", fault), size);
-        let said = String::from_utf8_lossy(&output.stderr);
-        assert!(!output.status.success(), "{fault} is found");
-        assert!(said.contains("differs"), "{fault} is a difference: {said}");
+        found(fault, &["1", "10"], " differs\n");
     }
+}
+
+/// The judge of demand 3 finds a fault that both have.
+#[test]
+fn fault_judged() {
+    let words = ["1", "10", "itself"];
+    assert!(compared("", &words).status.success(), "no fault");
+    let broken = "differs: not 'handled in the order first sent, none twice'";
+    found("queue popped on a repeat", &words, broken);
 }
 
 /// No call reads or writes outside what it is lent, and none looks at a byte that nothing wrote.
@@ -193,13 +196,7 @@ fn under_valgrind() {
         "--error-exitcode=9",
         env!("CARGO_BIN_EXE_compare"),
     ]);
-    let output = comparing(
-        &mut command,
-        Size {
-            chunks: 1,
-            divided: 20,
-        },
-    );
+    let output = command.args(["1", "20"]).output().expect("it runs");
     let said = String::from_utf8_lossy(&output.stderr);
     assert!(output.status.success(), "valgrind complains: {said}");
     let seconds = from.elapsed().as_secs_f32();

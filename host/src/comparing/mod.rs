@@ -60,6 +60,11 @@ pub struct Pair<'a> {
 }
 
 impl Pair<'_> {
+    /// Whether the chunk is a whole one.
+    pub fn is_whole(&self) -> bool {
+        self.guards == GUARDS
+    }
+
     /// Lends bytes.
     pub fn lent(&self, bytes: &[u8]) -> Lent {
         let mut all = Vec::with_capacity(bytes.len() + self.guards);

@@ -12,7 +12,9 @@ use crate::records::Record;
 /// Reads so many frames of every kind and of every length up to 80, and this chunk's share of a sweep.
 pub fn read(pair: &mut Pair, seed: u64, items: usize) {
     let mut random = Random::seeded(0x0100_0000 + seed);
-    every_byte(pair, seed, &mut random);
+    if pair.is_whole() {
+        every_byte(pair, seed, &mut random);
+    }
     for index in 0..items {
         let line = inputs::line(&mut random);
         let frame = inputs::frame(&mut random, line as u8, index).into_boxed_slice();
@@ -102,7 +104,9 @@ fn write_one(pair: &mut Pair, line: u32, block: &[u8], number: u32, room: &[u8])
 /// Writes so many records, with every room up to 70, and this chunk's share of a sweep.
 pub fn write(pair: &mut Pair, seed: u64, items: usize) {
     let mut random = Random::seeded(0x0200_0000 + seed);
-    every_value(pair, seed, &mut random);
+    if pair.is_whole() {
+        every_value(pair, seed, &mut random);
+    }
     for index in 0..items {
         let line = inputs::line(&mut random);
         let near = if matches!(line, 1..=3) { line as u8 } else { 1 };
