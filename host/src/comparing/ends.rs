@@ -49,7 +49,7 @@ pub fn call(pair: &mut Pair, seed: u64, items: usize) {
             random: &mut random,
         };
         sequence.start();
-        // as many short ones as long ones
+        // a third each are of up to 10, 40 and 200 calls
         let most = [10, 40, CALLS][sequence.random.below(3)];
         for _ in 0..sequence.random.from_to(1, most) {
             sequence.next();
