@@ -31,8 +31,19 @@ fn seconds(mut work: impl FnMut()) -> f64 {
 /// second version's, the median and the lowest and highest.
 fn row(what: &str, things: usize, mut one: impl FnMut(), mut other: impl FnMut()) {
     let mut turns: Vec<(f64, f64)> = (0..TURNS)
-        .map(|_| {
-            let (one, other) = (seconds(&mut one), seconds(&mut other));
+        .map(|turn| {
+            // each goes first by turns
+            let late = if turn % 2 == 0 {
+                0.0
+            } else {
+                seconds(&mut other)
+            };
+            let one = seconds(&mut one);
+            let other = if turn % 2 == 0 {
+                seconds(&mut other)
+            } else {
+                late
+            };
             (one / other, one)
         })
         .collect();
