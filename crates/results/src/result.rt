@@ -52,7 +52,8 @@ pub fn refuse(refusal: Refusal) -> In656Result
 {
     let mut r = say(0, 0);
     r.refusal = number_of(refusal) as u32;
-    r.place = place_of(refusal) as u64;
+    let place = place_of(refusal);
+    r.place = place as u64;
     r
 }
 
