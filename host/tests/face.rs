@@ -196,7 +196,7 @@ fn under_valgrind() {
         "--error-exitcode=9",
         env!("CARGO_BIN_EXE_compare"),
     ]);
-    let output = command.args(["1", "20"]).output().expect("it runs");
+    let output = command.args(["1", "40"]).output().expect("it runs");
     let said = String::from_utf8_lossy(&output.stderr);
     assert!(output.status.success(), "valgrind complains: {said}");
     let seconds = from.elapsed().as_secs_f32();
