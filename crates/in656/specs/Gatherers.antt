@@ -7,12 +7,11 @@ use lib.ListN.{length}
 use Rattle.records.specs.Refusals.{no}
 use Rattle.cutting.specs.Gather.{Cut, atStart, gatherOf}
 use Rattle.cutting.specs.declared.gather.Gatherer.{Gatherer}
-use Rattle.cutting.specs.declared.gather.Item.{Item}
 use Rattle.cutting.specs.declared.gather.Item.the-variants.{Byte, Hit}
 use Rattle.states.specs.Gatherers.{gathererLength, loadOf, saveOf}
 use Rattle.results.specs.Result.{zeros, refusing}
 use Rattle.results.specs.Telegrams.{cutResult}
-use Rattle.in656.specs.Telegrams.{Call}
+use Rattle.results.specs.Result.{Call}
 
 -- 14 where the state has another length
 unfoldable pub gathererStart : List ℕ → Call

@@ -13,9 +13,10 @@ use Rattle.blocks.specs.Layout.{filled}
 use Rattle.blocks.specs.Record.{recordLength, recordBytes}
 use Rattle.states.specs.Masters.{masterLength, loadOf, saveOf}
 use Rattle.results.specs.declared.result.In656Result.{In656Result}
+use Rattle.results.specs.Result.{Call}
 use Rattle.results.specs.Masters.{toldResult}
-use Rattle.in656.specs.Numbers.{lineFor, recordMeant}
-use Rattle.in656.specs.Telegrams.{Call, filledBy}
+use Rattle.inputs.specs.Numbers.{lineFor, recordMeant}
+use Rattle.in656.specs.Telegrams.{filledBy}
 
 -- the bytes of a state behind a call: those of the new state, or as they were where it is refused
 unfoldable pub masterAfter : In656Result → Master → List ℕ → List ℕ

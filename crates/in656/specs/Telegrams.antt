@@ -13,13 +13,9 @@ use Rattle.cutting.specs.Search.{spanOf}
 use Rattle.blocks.specs.Layout.{filled}
 use Rattle.blocks.specs.Record.{recordLength, recordBytes, recordIn}
 use Rattle.results.specs.declared.result.In656Result.{In656Result}
-use Rattle.results.specs.Result.{refusing}
+use Rattle.results.specs.Result.{Call, refusing}
 use Rattle.results.specs.Telegrams.{readResult, writeResult, spanResult}
-use Rattle.in656.specs.Numbers.{lineIn, numberIn, typed, recordMeant}
-
--- the result, and a lent part behind the call
-abbrev pub Call : Type 0
-Call = In656Result × List ℕ
+use Rattle.inputs.specs.Numbers.{lineIn, numberIn, typed, recordMeant}
 
 -- the record block behind a reading: filled by its record, or as it was
 abbrev pub filledBy : Answer → List ℕ → List ℕ

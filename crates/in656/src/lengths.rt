@@ -5,7 +5,7 @@ ghost use Rattle.blocks.specs.Record.{recordLength};
 ghost use Rattle.states.specs.Gatherers.{gathererLength};
 ghost use Rattle.states.specs.Desks.{deskLength};
 ghost use Rattle.states.specs.Masters.{masterLength};
-ghost use Rattle.in656.specs.Numbers.{resultSize};
+ghost use Rattle.results.specs.Result.{resultSize};
 use blocks::record::RECORD_LENGTH;
 use characters::marks::LONGEST;
 use states::desks::DESK_LENGTH;

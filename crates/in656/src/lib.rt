@@ -3,5 +3,4 @@ pub mod desks;
 pub mod gatherers;
 pub mod lengths;
 pub mod masters;
-pub mod numbers;
 pub mod telegrams;

@@ -2,11 +2,11 @@
 ghost use mathlib.Core.Path.{_≡_};
 ghost use Rattle.master.specs.Answers.{toldOf};
 ghost use Rattle.in656.specs.Masters.{stepped, masterStart, masterOffer, masterTick, answerBlock, masterHear};
-use crate::numbers::line_for;
-use crate::numbers::meaning;
 use crate::telegrams::fill;
 use blocks::record::RECORD_LENGTH;
 use blocks::record::put_record;
+use inputs::numbers::line_for;
+use inputs::numbers::meaning;
 use master::answers::Answer;
 use master::state::Master;
 use master::state::Step;

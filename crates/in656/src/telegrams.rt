@@ -2,13 +2,13 @@
 ghost use mathlib.Core.Path.{_≡_};
 ghost use Rattle.reading.specs.Answers.{answerOf};
 ghost use Rattle.in656.specs.Telegrams.{filledBy, readCall, writeCall, nextCall};
-use crate::numbers::byte_or;
-use crate::numbers::is_typed;
-use crate::numbers::meaning;
 use blocks::record::RECORD_LENGTH;
 use blocks::record::put_record;
 use cutting::search::span_of;
 use forms::lines::is_line;
+use inputs::numbers::byte_or;
+use inputs::numbers::is_typed;
+use inputs::numbers::meaning;
 use reading::answers::Reading;
 use reading::reading::read;
 use records::refusals::Refusal;

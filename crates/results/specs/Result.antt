@@ -1,8 +1,13 @@
 -- The result of a call of the C face, as the header says it (include/in656.h). Assumes nothing.
 use Prim.Native.Nat.{ℕ}
 use mathlib.Core.Bool.{Bool, cond}
+use mathlib.Core.List.{List}
 use Rattle.records.specs.Refusals.{No}
 use Rattle.results.specs.declared.result.In656Result.{In656Result}
+
+-- how many bytes it has: eight fields of four and two of eight
+abbrev pub resultSize : ℕ
+resultSize = 48
 
 -- an outcome and more of it; a field that a call does not use is 0
 abbrev pub saying : ℕ → ℕ → In656Result
@@ -126,3 +131,7 @@ withRecord r =
       lost = r .lost;
       filled = 1;
     }
+
+-- a result, and a lent part behind the call
+abbrev pub Call : Type 0
+Call = In656Result × List ℕ
