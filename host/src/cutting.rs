@@ -1,6 +1,7 @@
 //! Cuts telegrams out of a byte stream, in two ways that the tests hold against each other:
 //! document 01, 'Cutting the stream'.
 
+use crate::faults::is_on;
 use crate::reading::{CR, LF, LONGEST};
 
 /// A heard item.
@@ -17,11 +18,25 @@ pub struct Cutter {
 }
 
 impl Cutter {
+    /// A cutter that has gathered these bytes.
+    pub fn holding(gathered: &[u8]) -> Cutter {
+        Cutter {
+            gathered: gathered.to_vec(),
+        }
+    }
+
+    /// The bytes gathered so far.
+    pub fn gathered(&self) -> &[u8] {
+        &self.gathered
+    }
+
     /// Takes the next heard item and hands out the telegram that it ends.
     pub fn hear(&mut self, heard: Heard) -> Option<Vec<u8>> {
         match heard {
             Heard::Hit => self.gathered.clear(),
-            Heard::Byte(LF) => self.gathered = vec![LF],
+            Heard::Byte(LF) if self.gathered.is_empty() || !is_on("telegram goes on over LF") => {
+                self.gathered = vec![LF]
+            }
             Heard::Byte(_) if self.gathered.is_empty() => {}
             Heard::Byte(CR) => {
                 self.gathered.push(CR);

@@ -1,6 +1,6 @@
 //! Runs both ends over a simulated line and writes the exchange as a time line: demand 3,
 //! and document 01, 'Link rules'. The ends are reached by the rows of docs/SCENES.md, so that
-//! the program `scenes` or the second version can stand behind them.
+//! the program `scenes`, the second version or the library can stand behind them.
 
 use crate::demand::{summary, Item};
 use crate::making::any_form;

@@ -2,6 +2,7 @@
 //! 15 and 17 of 'Numbered answers'.
 
 use crate::clock::run_out;
+use crate::faults::is_on;
 use crate::reading::read;
 use crate::records::{by_master, data_type, Record};
 
@@ -176,14 +177,19 @@ impl Desk {
             }
             Err((6, _)) => {
                 let answer = Record::with(b'N', b'1').telegram(self.line, digit - b'0');
-                return Ok((lost, Heard::Fault, answer.unwrap_or_default()));
+                let answer = answer.unwrap_or_default();
+                if is_on("fault stored") {
+                    self.store(&answer);
+                }
+                return Ok((lost, Heard::Fault, answer));
             }
             Err((refusal @ 1..=7, place)) => {
                 return Ok((lost, Heard::Silent(*refusal, *place), Vec::new()))
             }
             Err(_) => digit - b'0',
         };
-        if self.good && number == self.last {
+        let popped = is_on("queue popped on a repeat") && frame.get(3) == Some(&b't');
+        if self.good && number == self.last && !popped {
             let answer = self.stored.get(..self.kept).unwrap_or(&[]).to_vec();
             return Ok((lost, Heard::Repeat, answer));
         }
@@ -193,10 +199,15 @@ impl Desk {
         self.good = true;
         self.last = number;
         self.t1 = now;
-        self.kept = bytes.len();
-        self.stored = bytes.clone();
-        self.stored.resize(ROOM, 0);
+        self.store(&bytes);
         Ok((lost, Heard::Handled(source), bytes))
+    }
+
+    /// Stores an answer.
+    fn store(&mut self, bytes: &[u8]) {
+        self.kept = bytes.len();
+        self.stored = bytes.to_vec();
+        self.stored.resize(ROOM, 0);
     }
 
     /// The answer to a telegram that is handled, and where it comes from.

@@ -191,7 +191,8 @@ fn exchanged(random: &mut Random, telegram: &mut [u8]) {
     }
 }
 
-fn wrong_count(random: &mut Random, telegram: &mut [u8]) {
+/// Writes a count that may be wrong into a telegram.
+pub fn wrong_count(random: &mut Random, telegram: &mut [u8]) {
     let digits = match random.below(4) {
         0 => [b' ', random.one_of(b"0123456789")],
         1 => *b"0A",
@@ -244,4 +245,19 @@ pub fn capture(random: &mut Random, line: u8, length: usize) -> Vec<u8> {
     }
     bytes.truncate(length + 1);
     bytes
+}
+
+/// The next bytes of a capture for timing: quiet is mostly bytes outside telegrams, busy is
+/// telegrams.
+pub fn piece(random: &mut Random, line: u8, busy: bool) -> Vec<u8> {
+    if !busy {
+        let length = random.from_to(2000, 6000);
+        let mut bytes: Vec<u8> = (0..length).map(|_| random.byte() | 0x80).collect();
+        bytes.extend(any_form(random, line));
+        bytes
+    } else if random.one_in(50) {
+        damaged(random, line)
+    } else {
+        any_form(random, line)
+    }
 }

@@ -3,6 +3,7 @@
 
 use crate::clock::run_out;
 use crate::desk::{Refusal, ROOM};
+use crate::faults::is_on;
 use crate::reading::read;
 use crate::records::{by_master, data_type, Record};
 
@@ -102,7 +103,11 @@ impl Master {
         }
         let told = give_up(self.count);
         self.count = 0;
-        self.number = 0;
+        self.number = if is_on("number changed") {
+            1 - self.number
+        } else {
+            0
+        };
         (told, Vec::new())
     }
 

@@ -1,6 +1,8 @@
 //! Reads one telegram: document 01, 'The three lines and both ends', 'The telegram',
 //! 'Telegram forms' and answers 1 to 11 and 15 of 'Numbered answers'.
 
+use crate::faults::is_on;
+
 pub const LF: u8 = 0x0A;
 pub const CR: u8 = 0x0D;
 /// The fewest and the most bytes of a telegram.
@@ -160,7 +162,11 @@ pub fn read(line: u8, bytes: &[u8]) -> Result<Reading, (u8, usize)> {
     if at(length - 1) != CR {
         return Err((5, length - 1));
     }
-    if part(length - 3, length - 1) != checksum(part(1, length - 3)).as_bytes() {
+    let summed = checksum(part(1, length - 3));
+    let found = part(length - 3, length - 1);
+    let fits = found == summed.as_bytes()
+        || is_on("lower case taken") && found.eq_ignore_ascii_case(summed.as_bytes());
+    if !fits {
         return Err((6, length - 3));
     }
     if !b"01".contains(&at(4)) {

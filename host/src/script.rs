@@ -16,20 +16,23 @@ pub struct Bench {
 }
 
 /// The words of a row, each as what a call takes it for.
-struct Row<'a> {
-    text: &'a str,
+pub struct Row<'a> {
+    pub text: &'a str,
 }
 
 impl Row<'_> {
-    fn rest(&self, index: usize) -> &str {
+    /// The text from a word on.
+    pub fn rest(&self, index: usize) -> &str {
         self.text.splitn(index + 1, ' ').nth(index).unwrap_or("")
     }
 
-    fn word(&self, index: usize) -> &str {
+    /// A word.
+    pub fn word(&self, index: usize) -> &str {
         self.rest(index).split(' ').next().unwrap_or("")
     }
 
-    fn number(&self, index: usize) -> u32 {
+    /// A word as a number, 0 where it is none.
+    pub fn number(&self, index: usize) -> u32 {
         self.word(index).parse().unwrap_or(0)
     }
 
@@ -38,7 +41,7 @@ impl Row<'_> {
     }
 
     /// The record from a word on, with as many values as its type has.
-    fn record(&self, index: usize) -> Record {
+    pub fn record(&self, index: usize) -> Record {
         let mut words = self.rest(index).split(' ');
         let type_byte = words
             .next()
@@ -66,7 +69,8 @@ impl Bench {
         }
     }
 
-    fn desk_state(&self) -> String {
+    /// The desk's state as each answer says it.
+    pub fn desk_state(&self) -> String {
         let desk = &self.desk;
         format!(
             "; {}, last {}, queued {}",
@@ -76,7 +80,8 @@ impl Bench {
         )
     }
 
-    fn master_state(&self) -> String {
+    /// The master's state as each answer says it.
+    pub fn master_state(&self) -> String {
         let master = &self.master;
         format!(
             "; {}, number {}, count {}",

@@ -9,12 +9,12 @@ use crate::script::Bench;
 use crate::words::{in_row, shown};
 
 /// Steps of the clock: short ones, and those next to the limits of T2, T0 and T1.
-const STEPS: [u32; 12] = [
+pub const STEPS: [u32; 12] = [
     0, 7, 90, 400, 1_999, 2_000, 2_001, 19_999, 20_000, 27_999, 28_000, 40_000,
 ];
 
 /// Where a clock is set to: zero, anywhere, or shortly before it starts again.
-const CLOCKS: [u32; 4] = [0, 1_000_000, 4_294_960_000, u32::MAX];
+pub const CLOCKS: [u32; 4] = [0, 1_000_000, 4_294_960_000, u32::MAX];
 
 /// A script in the making, and the bench that has run it so far.
 struct Maker<'a> {

@@ -1,7 +1,9 @@
 //! Both ends over a simulated line: demand 3 on what happened, and the kept exchange.
 
+use host::both::BothEnds;
 use host::demand::{judge, supposed, Item};
 use host::demo::{asked, run, SHOWN};
+use host::face::library;
 use host::program::Program;
 use host::script::Bench;
 use std::path::{Path, PathBuf};
@@ -22,6 +24,14 @@ fn program() -> Program {
 fn kept_exchange() {
     let kept = std::fs::read_to_string(repository("samples/exchange.txt")).expect("it is read");
     assert_eq!(run(&mut program(), &SHOWN, 1, 33, 90_000).0, kept);
+    if let Ok(face) = library() {
+        let mut ends = BothEnds::new(face);
+        assert_eq!(
+            run(&mut ends, &SHOWN, 1, 33, 90_000).0,
+            kept,
+            "by the library"
+        );
+    }
 }
 
 /// What the demonstration asks for: other lines, no time and words are refused with status 2.
@@ -43,8 +53,8 @@ fn asked_for() {
         ),
     ] {
         let output = Command::new(env!("CARGO_BIN_EXE_demo"))
-            .arg("no program")
             .args(words)
+            .arg("no program")
             .output()
             .expect("it runs");
         assert_eq!(output.status.code(), Some(2), "{words:?}");
@@ -56,7 +66,8 @@ fn asked_for() {
     }
 }
 
-/// Runs from many seeds: the two versions of the ends say the same, and demand 3 holds.
+/// Runs from many seeds: the program, the second version and, where it is linked, the library say
+/// the same, and demand 3 holds.
 #[test]
 fn many_exchanges() {
     let mut program = program();
@@ -66,6 +77,10 @@ fn many_exchanges() {
             let (text, history) = run(&mut program, &SHOWN, line, seed, 90_000);
             let (second, _) = run(&mut Bench::new(), &SHOWN, line, seed, 90_000);
             assert_eq!(text, second, "line {line}, seed {seed}");
+            if let Ok(face) = library() {
+                let (third, _) = run(&mut BothEnds::new(face), &SHOWN, line, seed, 90_000);
+                assert_eq!(third, second, "line {line}, seed {seed}, by the library");
+            }
             assert!(
                 supposed(&history),
                 "line {line}, seed {seed}: the supposition"

@@ -1,26 +1,12 @@
 //! Writes a capture of so many MiB, the line digit included, to standard output for timing the
 //! listing program of document 01; quiet is mostly bytes outside telegrams, busy is telegrams.
 
-use host::making::{any_form, damaged};
+use host::making::piece;
 use host::random::Random;
 use std::io::Write;
 use std::process::ExitCode;
 
 const MIB: usize = 1 << 20;
-
-/// The next bytes of a capture.
-fn piece(random: &mut Random, line: u8, busy: bool) -> Vec<u8> {
-    if !busy {
-        let length = random.from_to(2000, 6000);
-        let mut bytes: Vec<u8> = (0..length).map(|_| random.byte() | 0x80).collect();
-        bytes.extend(any_form(random, line));
-        bytes
-    } else if random.one_in(50) {
-        damaged(random, line)
-    } else {
-        any_form(random, line)
-    }
-}
 
 /// Writes the line digit and then pieces until so many bytes are out.
 fn write_capture(line: u8, mut left: usize, seed: u64, busy: bool) -> std::io::Result<()> {

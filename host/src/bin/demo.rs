@@ -1,19 +1,33 @@
-//! Shows an exchange: `demo PROGRAM LINE SEED SECONDS` runs both ends, as the program `scenes`
-//! has them, over a simulated line and prints the time line.
+//! Shows an exchange: `demo LINE SEED SECONDS PROGRAM` runs both ends over a simulated line and
+//! prints the time line. The ends are those of the library where it is linked, else those of the
+//! program `scenes`.
 
+use host::both::BothEnds;
 use host::demo::{asked, run, SHOWN};
+use host::face::library;
 use host::program::Program;
 
 fn main() {
     let words: Vec<String> = std::env::args().skip(1).collect();
     let wanted = match words.as_slice() {
-        [path, line, seed, seconds] => asked(line, seed, seconds).map(|numbers| (path, numbers)),
-        _ => Err("usage: demo PROGRAM LINE SEED SECONDS".into()),
+        [line, seed, seconds, rest @ ..] => asked(line, seed, seconds).map(|n| (n, rest.first())),
+        _ => Err("usage: demo LINE SEED SECONDS [PROGRAM]".into()),
     };
-    let (path, (line, seed, seconds)) = wanted.unwrap_or_else(|trouble| {
-        eprintln!("demo: {trouble}");
-        std::process::exit(2);
-    });
-    let mut ends = Program::start(path).expect("the program scenes starts");
-    print!("{}", run(&mut ends, &SHOWN, line, seed, seconds * 1_000).0);
+    let ((line, seed, seconds), path) = wanted.unwrap_or_else(|trouble| stop(&trouble));
+    let duration = seconds * 1_000;
+    let (text, _) = match (library(), path) {
+        (Ok(face), _) => run(&mut BothEnds::new(face), &SHOWN, line, seed, duration),
+        (Err(_), Some(path)) => {
+            let mut ends = Program::start(path).expect("the program scenes starts");
+            run(&mut ends, &SHOWN, line, seed, duration)
+        }
+        (Err(why), None) => stop(&format!("{why}: name the program scenes")),
+    };
+    print!("{text}");
+}
+
+/// Says what is wrong and ends with status 2.
+fn stop(trouble: &str) -> ! {
+    eprintln!("demo: {trouble}");
+    std::process::exit(2);
 }

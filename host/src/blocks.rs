@@ -1,0 +1,179 @@
+//! Records and states as bytes of a fixed length: records from the words of `include/in656.h`,
+//! states with their fields in the order that the crate `blocks` states. Numbers of 32 bits have
+//! their highest byte first.
+
+use crate::desk::Desk;
+use crate::master::Master;
+use crate::reading::FORMS;
+use crate::records::Record;
+
+pub const RECORD: usize = 64;
+pub const GATHERER: usize = 67;
+pub const DESK: usize = 653;
+pub const MASTER: usize = 76;
+/// The bytes of a state's stored answer, and of a gathered telegram.
+const ANSWER: usize = 66;
+/// The places of a desk's queue.
+const PLACES: usize = 8;
+
+/// How many values a record of a type has, where there is such a type.
+fn values_of(type_byte: u8) -> Option<usize> {
+    let form = FORMS.iter().find(|form| form.type_byte == type_byte)?;
+    Some(form.letters().count())
+}
+
+/// The block of a record.
+pub fn record_block(record: &Record) -> Vec<u8> {
+    let mut block = vec![record.type_byte];
+    for value in &record.values {
+        block.extend(value.to_be_bytes());
+    }
+    block.resize(RECORD, 0);
+    block
+}
+
+/// The record of a block: 12 where the length or the type is another, 13 where a byte stands
+/// that the record does not use.
+pub fn record_in(block: &[u8]) -> Result<Record, u8> {
+    if block.len() != RECORD {
+        return Err(12);
+    }
+    let mut rest = Rest(block);
+    let type_byte = rest.byte();
+    let count = values_of(type_byte).ok_or(12)?;
+    let values = (0..count).map(|_| rest.number()).collect();
+    if rest.0.iter().any(|byte| *byte != 0) {
+        return Err(13);
+    }
+    Ok(Record { type_byte, values })
+}
+
+/// The bytes of a block that are not yet taken; 0 behind the last.
+struct Rest<'a>(&'a [u8]);
+
+impl<'a> Rest<'a> {
+    fn part(&mut self, length: usize) -> &'a [u8] {
+        let (part, rest) = self.0.split_at(length.min(self.0.len()));
+        self.0 = rest;
+        part
+    }
+
+    fn byte(&mut self) -> u8 {
+        self.part(1).first().copied().unwrap_or(0)
+    }
+
+    fn number(&mut self) -> u32 {
+        let wide = |sum: u32, byte: &u8| sum << 8 | u32::from(*byte);
+        self.part(4).iter().fold(0, wide)
+    }
+
+    /// A byte that is 0 or 1.
+    fn flag(&mut self) -> Option<bool> {
+        match self.byte() {
+            0 => Some(false),
+            1 => Some(true),
+            _ => None,
+        }
+    }
+
+    fn record(&mut self) -> Option<Record> {
+        record_in(self.part(RECORD)).ok()
+    }
+}
+
+/// The desk of a block with all places of its queue, none where the bytes are of no desk.
+pub fn desk_in(block: &[u8]) -> Option<Desk> {
+    if block.len() != DESK {
+        return None;
+    }
+    let mut rest = Rest(block);
+    let (line, good, last, key) = (rest.byte(), rest.flag()?, rest.byte(), rest.byte());
+    let t1 = rest.number();
+    let (kept, queued, set) = (rest.byte().into(), rest.byte().into(), rest.flag()?);
+    let stored = rest.part(ANSWER).to_vec();
+    let requested = if set {
+        Some(rest.record()?)
+    } else if rest.part(RECORD).iter().all(|byte| *byte == 0) {
+        None
+    } else {
+        return None;
+    };
+    let places = (0..PLACES).map(|_| rest.record());
+    Some(Desk {
+        line,
+        good,
+        last,
+        t1,
+        kept,
+        stored,
+        requested,
+        queued,
+        queue: places.collect::<Option<_>>()?,
+        key,
+    })
+}
+
+/// The block of a desk with all places of its queue.
+pub fn desk_block(desk: &Desk) -> Vec<u8> {
+    let flag = u8::from(desk.requested.is_some());
+    let mut block = vec![desk.line, desk.good.into(), desk.last, desk.key];
+    block.extend(desk.t1.to_be_bytes());
+    block.extend([desk.kept as u8, desk.queued as u8, flag]);
+    block.extend(&desk.stored);
+    match &desk.requested {
+        Some(record) => block.extend(record_block(record)),
+        None => block.extend([0; RECORD]),
+    }
+    for record in &desk.queue {
+        block.extend(record_block(record));
+    }
+    block
+}
+
+/// The places of a desk's queue at its start.
+pub fn blank_places() -> Vec<Record> {
+    vec![Record::with(b'A', 0); PLACES]
+}
+
+/// The places behind those that wait keep what they held: as a record leaves each place takes
+/// that of the next, and the last stands twice; a record that is put takes its place.
+pub fn places(before: &[Record], left: bool, desk: &Desk) -> Vec<Record> {
+    let mut places = before.to_vec();
+    if left {
+        places.remove(0);
+        places.extend(places.last().cloned());
+    }
+    for (place, record) in places.iter_mut().zip(&desk.queue).take(desk.queued) {
+        *place = record.clone();
+    }
+    places
+}
+
+/// The master of a block, none where the bytes are of no master.
+pub fn master_in(block: &[u8]) -> Option<Master> {
+    if block.len() != MASTER {
+        return None;
+    }
+    let mut rest = Rest(block);
+    let (line, good, number, count) = (rest.byte(), rest.flag()?, rest.byte(), rest.byte());
+    let (t0, t2) = (rest.number(), rest.number());
+    let record = rest.record()?;
+    Some(Master {
+        line,
+        good,
+        number,
+        count,
+        record,
+        t0,
+        t2,
+    })
+}
+
+/// The block of a master.
+pub fn master_block(master: &Master) -> Vec<u8> {
+    let mut block = vec![master.line, master.good.into(), master.number, master.count];
+    block.extend(master.t0.to_be_bytes());
+    block.extend(master.t2.to_be_bytes());
+    block.extend(record_block(&master.record));
+    block
+}

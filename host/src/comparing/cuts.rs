@@ -1,0 +1,86 @@
+//! Streams cut by both, item by item and by search: document 01, 'Cutting the stream'.
+
+use super::{inputs, Lent, Pair};
+use crate::blocks::GATHERER;
+use crate::face::Call;
+use crate::making::{capture, noise};
+use crate::numbers::TELEGRAM;
+use crate::random::Random;
+
+/// Cuts so many streams in both ways.
+pub fn cut(pair: &mut Pair, seed: u64, items: usize) {
+    let mut random = Random::seeded(0x0300_0000 + seed);
+    for _ in 0..items {
+        let length = random.below(400);
+        let bytes = match random.below(4) {
+            0 => noise(&mut random, length),
+            _ => {
+                let line = random.from_to(1, 3) as u8;
+                capture(&mut random, line, length).split_off(1)
+            }
+        };
+        let bytes = bytes.into_boxed_slice();
+        let hits = random.one_in(3);
+        let stepped = by_step(pair, &mut random, &bytes, hits);
+        let found = by_search(pair, &bytes, 0);
+        if !hits {
+            assert_eq!(stepped, found, "step and search cut {bytes:?} alike");
+        }
+        for from in [random.below(bytes.len() + 3), usize::MAX - random.below(3)] {
+            by_search(pair, &bytes, from);
+        }
+    }
+}
+
+/// The telegrams handed out byte by byte, at times with hits and damaged states among them.
+fn by_step(pair: &mut Pair, random: &mut Random, bytes: &[u8], hits: bool) -> Vec<Vec<u8>> {
+    let length = if random.one_in(50) {
+        random.below(70)
+    } else {
+        GATHERER
+    };
+    let mut state = pair.lent(&vec![random.byte(); length]);
+    pair.on(Call::GathererStart, &mut state);
+    if length != GATHERER {
+        state = pair.lent(&[0; GATHERER]);
+    }
+    let mut telegrams = Vec::new();
+    for byte in bytes {
+        if hits && random.one_in(40) {
+            pair.on(Call::GathererHit, &mut state);
+        }
+        if random.one_in(300) {
+            damaged_step(pair, random, &state, *byte);
+        }
+        let answer = pair.on(Call::GathererByte(*byte), &mut state);
+        if answer.outcome == TELEGRAM {
+            let behind = state.bytes().get(1..=answer.written as usize);
+            telegrams.push(behind.unwrap_or_default().to_vec());
+        }
+    }
+    telegrams
+}
+
+/// A byte and a hit on a damaged state.
+fn damaged_step(pair: &mut Pair, random: &mut Random, state: &Lent, byte: u8) {
+    for call in [Call::GathererByte(byte), Call::GathererHit] {
+        let damaged = inputs::damage(random, state.bytes());
+        let mut damaged = pair.lent(&damaged);
+        pair.on(call, &mut damaged);
+    }
+}
+
+/// The telegrams found by search from an index on.
+fn by_search(pair: &mut Pair, bytes: &[u8], mut from: usize) -> Vec<Vec<u8>> {
+    let mut telegrams = Vec::new();
+    let mut none = pair.lent(&[]);
+    loop {
+        let answer = pair.on(Call::Next(bytes, from), &mut none);
+        if answer.outcome == 0 {
+            return telegrams;
+        }
+        let start = answer.place as usize;
+        from = start + answer.written as usize;
+        telegrams.push(bytes.get(start..from).unwrap_or_default().to_vec());
+    }
+}

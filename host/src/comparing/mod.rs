@@ -1,0 +1,193 @@
+//! The library held against the second version: the same calls on the same bytes, and all that a
+//! call answers or may change compared behind each.
+
+pub mod cuts;
+pub mod ends;
+pub mod inputs;
+pub mod telegrams;
+
+use crate::face::{Answer, Call, Face};
+use std::collections::BTreeMap;
+use std::sync::atomic::{AtomicU64, Ordering};
+use std::sync::Mutex;
+
+/// Bytes behind each lent part, which no call may touch.
+const GUARDS: usize = 16;
+
+/// How much is compared: so many chunks, each divided by a number. 100 whole chunks are the gate's.
+#[derive(Clone, Copy)]
+pub struct Size {
+    pub chunks: u64,
+    pub divided: usize,
+}
+
+/// The gate's share.
+pub const GATE: Size = Size {
+    chunks: 100,
+    divided: 1,
+};
+
+/// Lent bytes with guards behind them. A divided chunk has none, so that a tool that watches the
+/// memory sees a step behind the end.
+#[derive(Debug, Clone, PartialEq, Eq)]
+pub struct Lent {
+    bytes: Vec<u8>,
+    length: usize,
+}
+
+impl Lent {
+    pub fn lend(&mut self) -> &mut [u8] {
+        self.bytes.get_mut(..self.length).unwrap_or_default()
+    }
+
+    pub fn bytes(&self) -> &[u8] {
+        self.bytes.get(..self.length).unwrap_or_default()
+    }
+}
+
+/// A call's name and what it told: refusal, outcome, detail, and whether the line was noted lost.
+pub type Told = (&'static str, u32, u32, u32, u32);
+
+/// How often each call told what.
+pub type Tally = BTreeMap<Told, u64>;
+
+/// The two faces, and what they answered so far.
+pub struct Pair<'a> {
+    library: &'a dyn Face,
+    second: &'a dyn Face,
+    guards: usize,
+    pub tally: Tally,
+}
+
+impl Pair<'_> {
+    /// Whether the chunk is a whole one.
+    pub fn is_whole(&self) -> bool {
+        self.guards == GUARDS
+    }
+
+    /// Lends bytes.
+    pub fn lent(&self, bytes: &[u8]) -> Lent {
+        let mut all = Vec::with_capacity(bytes.len() + self.guards);
+        all.extend(bytes);
+        all.resize(bytes.len() + self.guards, 0xA5);
+        Lent {
+            bytes: all,
+            length: bytes.len(),
+        }
+    }
+
+    /// Makes a call on both, and holds all that it answers and may change against each other.
+    pub fn call(
+        &mut self,
+        call: Call,
+        state: &mut Lent,
+        out: &mut Lent,
+        record: &mut Lent,
+    ) -> Answer {
+        let before = (state.clone(), out.clone(), record.clone());
+        let (mut s, mut o, mut r) = before.clone();
+        let got = self
+            .library
+            .call(call, state.lend(), out.lend(), record.lend());
+        let want = self.second.call(call, s.lend(), o.lend(), r.lend());
+        if got != want || *state != s || *out != o || *record != r {
+            panic!(
+                "{call:?} differs\nbefore: {before:?}\nlibrary: {got:?}\n{state:?}\n{out:?}\n{record:?}\n\
+                 second version: {want:?}\n{s:?}\n{o:?}\n{r:?}"
+            );
+        }
+        let told = (call.name(), got.refusal, got.outcome, got.detail, got.lost);
+        *self.tally.entry(told).or_default() += 1;
+        got
+    }
+
+    /// A call that is lent nothing but a state.
+    pub fn on(&mut self, call: Call, state: &mut Lent) -> Answer {
+        let (mut out, mut record) = (self.lent(&[]), self.lent(&[]));
+        self.call(call, state, &mut out, &mut record)
+    }
+}
+
+/// Leaves no chunk to the others where a processor finds a difference.
+struct Stop<'a>(&'a AtomicU64);
+
+impl Drop for Stop<'_> {
+    fn drop(&mut self) {
+        if std::thread::panicking() {
+            self.0.store(u64::MAX / 2, Ordering::Relaxed);
+        }
+    }
+}
+
+/// Runs the chunks of a part on all processors, each from its own seed, and adds what they count.
+pub fn in_chunks(size: Size, work: impl Fn(u64) -> Tally + Sync) -> Tally {
+    let next = AtomicU64::new(0);
+    let sum = Mutex::new(Tally::new());
+    let processors = std::thread::available_parallelism().map_or(1, usize::from);
+    std::thread::scope(|scope| {
+        for _ in 0..processors {
+            scope.spawn(|| loop {
+                let _stop = Stop(&next);
+                let seed = next.fetch_add(1, Ordering::Relaxed);
+                if seed >= size.chunks {
+                    return;
+                }
+                let tally = work(seed);
+                let mut sum = sum.lock().unwrap_or_else(|held| held.into_inner());
+                for (told, count) in tally {
+                    *sum.entry(told).or_default() += count;
+                }
+            });
+        }
+    });
+    sum.into_inner().unwrap_or_else(|held| held.into_inner())
+}
+
+/// A part of the comparison: so many items of a chunk, from a seed.
+pub type Part = fn(&mut Pair, u64, usize);
+
+/// The parts, each with its name and the items of a whole chunk.
+pub const PARTS: [(&str, usize, Part); 4] = [
+    ("frames read", 20_000, telegrams::read),
+    ("records written", 10_000, telegrams::write),
+    ("streams cut", 1_000, cuts::cut),
+    ("sequences of calls", 2_000, ends::call),
+];
+
+/// Holds a part of the library against the second version.
+pub fn compare(part: &str, size: Size, library: &dyn Face, second: &dyn Face) -> Tally {
+    let known = PARTS.iter().find(|(name, ..)| *name == part);
+    let (_, items, run) = *known.expect("a part of the comparison");
+    in_chunks(size, |seed| {
+        let guards = if size.divided == 1 { GUARDS } else { 0 };
+        let mut pair = Pair {
+            library,
+            second,
+            guards,
+            tally: Tally::new(),
+        };
+        run(&mut pair, seed, items / size.divided);
+        pair.tally
+    })
+}
+
+/// A line for each call: how often it was made, refused with which number, and did what.
+pub fn figures(tally: &Tally) -> String {
+    let mut lines: BTreeMap<&str, (u64, String)> = BTreeMap::new();
+    for ((name, refusal, outcome, detail, lost), count) in tally {
+        let lost = if *lost == 0 { "" } else { " lost" };
+        let (sum, text) = lines.entry(name).or_default();
+        *sum += count;
+        text.push_str(&match (refusal, outcome, detail) {
+            (0, 0, 0) => format!(" done {count}"),
+            (0, outcome, 0) => format!(" outcome {outcome}{lost}: {count}"),
+            (0, outcome, detail) => format!(" outcome {outcome}.{detail}{lost}: {count}"),
+            (refusal, ..) => format!(" no {refusal}: {count}"),
+        });
+    }
+    let line = |(name, (sum, text)): (&&str, &(u64, String))| match text {
+        text if *text == format!(" done {sum}") => format!("  {name} {sum}\n"),
+        text => format!("  {name} {sum}:{text}\n"),
+    };
+    lines.iter().map(line).collect()
+}

@@ -1,0 +1,20 @@
+//! Deliberate faults of the second version, one switched on by the environment variable
+//! HOST_FAULT: a comparison that does not see it is worth nothing. Most are document 01's
+//! 'Readings that look right'.
+
+use std::sync::OnceLock;
+
+/// The names of the faults.
+pub const FAULTS: [&str; 5] = [
+    "lower case taken",
+    "telegram goes on over LF",
+    "fault stored",
+    "queue popped on a repeat",
+    "number changed",
+];
+
+/// Whether this fault is switched on.
+pub fn is_on(fault: &str) -> bool {
+    static NAMED: OnceLock<String> = OnceLock::new();
+    NAMED.get_or_init(|| std::env::var("HOST_FAULT").unwrap_or_default()) == fault
+}
