@@ -26,6 +26,7 @@ struct bench {
   int waits;        /* 1 while a telegram is neither answered nor given up */
   int failures;     /* how many records were refused, answered with N or another kind, or given up */
   uint8_t master[IN656_MASTER_LENGTH];
+  uint8_t out[IN656_LONGEST], record[IN656_RECORD_LENGTH]; /* what the last call wrote */
 };
 
 /* T0 and T2 run from the sent CR (001 sections 3.2.1 and 3.2.3), so the master's clock stands still while bytes are being sent. */
@@ -35,66 +36,62 @@ static uint32_t master_ms(const struct bench *bench)
 }
 
 /* Sends what a call wrote. 0, or -1 where the line is gone. */
-static int send_out(struct bench *bench, const uint8_t *out, size_t length)
+static int send_out(struct bench *bench, size_t length)
 {
   uint32_t from = clock_ms();
-  int failed = serial_send(&bench->line, out, length);
+  int failed = serial_send(&bench->line, bench->out, length);
   bench->sending += clock_ms() - from;
   return failed;
 }
 
-/* Does what a call of the master answered: says it, and sends what it wrote. 0, or -1 where the line is gone. */
-static int done(struct bench *bench, in656_result r, const uint8_t *heard, size_t length, const uint8_t *out, const uint8_t *record)
+/* Does what a call of the master answered, which heard so many bytes: says it, and sends what it wrote. 0, or -1 where the line is gone. */
+static int done(struct bench *bench, in656_result r, size_t heard)
 {
   char text[SHOWN];
   if (r.refusal == IN656_OK && r.outcome == IN656_MASTER_NOTHING)
     return 0;
-  master_words(text, LINE, r, record);
-  if (heard != NULL)
-    show_telegram(day_ms(), WHO, "hears", heard, length, text);
+  master_words(text, LINE, r, bench->record);
+  if (heard > 0)
+    show_telegram(day_ms(), WHO, "hears", serial_telegram(&bench->line), heard, text);
   else if (r.written == 0)
     show_line(day_ms(), WHO, r.refusal == IN656_OK ? "ends" : "typed", text);
-  if (r.refusal != IN656_OK)
-    bench->failures++;
   if (r.outcome == IN656_MASTER_SENT)
     bench->waits = 1;
-  if (r.outcome == IN656_MASTER_ANSWERED || r.outcome == IN656_MASTER_OTHER_KIND || r.outcome == IN656_MASTER_GIVEN_UP) {
+  if (r.outcome == IN656_MASTER_ANSWERED || r.outcome == IN656_MASTER_OTHER_KIND || r.outcome == IN656_MASTER_GIVEN_UP)
     bench->waits = 0;
-    if (r.outcome != IN656_MASTER_ANSWERED || record[IN656_RECORD_TYPE_AT] == 'N')
-      bench->failures++;
-  }
+  if (r.refusal != IN656_OK || r.outcome == IN656_MASTER_OTHER_KIND || r.outcome == IN656_MASTER_GIVEN_UP
+      || (r.outcome == IN656_MASTER_ANSWERED && bench->record[IN656_RECORD_TYPE_AT] == 'N'))
+    bench->failures++;
   if (r.written == 0)
     return 0;
-  if (send_out(bench, out, (size_t)r.written) != 0)
+  if (send_out(bench, (size_t)r.written) != 0)
     return -1;
-  show_telegram(day_ms(), WHO, "sent", out, (size_t)r.written, heard == NULL ? text : "");
+  show_telegram(day_ms(), WHO, "sent", bench->out, (size_t)r.written, heard == 0 ? text : "");
   return 0;
 }
 
 static int offer(struct bench *bench, const char *row)
 {
-  uint8_t out[IN656_LONGEST], record[IN656_RECORD_LENGTH];
-  if (!record_said(row, record)) {
+  in656_result r;
+  if (!record_said(row, bench->record)) {
     show_line(day_ms(), WHO, "typed", "no record: type as t t");
     bench->failures++;
     return 0;
   }
-  return done(bench, in656_master_offer(bench->master, sizeof bench->master, master_ms(bench), record, sizeof record, out, sizeof out), NULL,
-              0, out, record);
+  r = in656_master_offer(bench->master, sizeof bench->master, master_ms(bench), bench->record, sizeof bench->record, bench->out, sizeof bench->out);
+  return done(bench, r, 0);
 }
 
 static int tick(struct bench *bench)
 {
-  uint8_t out[IN656_LONGEST];
-  return done(bench, in656_master_tick(bench->master, sizeof bench->master, master_ms(bench), out, sizeof out), NULL, 0, out, NULL);
+  return done(bench, in656_master_tick(bench->master, sizeof bench->master, master_ms(bench), bench->out, sizeof bench->out), 0);
 }
 
 static int hear(struct bench *bench, size_t length)
 {
-  uint8_t out[IN656_LONGEST], record[IN656_RECORD_LENGTH];
-  const uint8_t *telegram = serial_telegram(&bench->line);
-  in656_result r = in656_master_hear(bench->master, sizeof bench->master, master_ms(bench), telegram, length, out, sizeof out, record, sizeof record);
-  return done(bench, r, telegram, length, out, record);
+  in656_result r = in656_master_hear(bench->master, sizeof bench->master, master_ms(bench), serial_telegram(&bench->line), length, bench->out,
+                                     sizeof bench->out, bench->record, sizeof bench->record);
+  return done(bench, r, length);
 }
 
 /* Runs until the rows are done with (0), or the line is gone (-1, with errno). */
@@ -110,7 +107,7 @@ static int run(struct bench *bench, char **rows, int count)
       return 0;
     if (!bench->waits && next < count && offer(bench, rows[next++]) != 0)
       return -1;
-    if (poll(ready, 2, 20) < 0 && errno != EINTR)
+    if (poll(ready, 2, 10) < 0 && errno != EINTR)
       return -1;
     while (ready[0].revents != 0 && (heard = serial_hear(&bench->line, &length)) == 1)
       if (hear(bench, length) != 0)
