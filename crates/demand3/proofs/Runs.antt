@@ -4,7 +4,7 @@ use Rattle.laws.specs.Numerals.{numeralOn, numberOn, leftOf}
 use Rattle.characters.specs.Characters.{inSet}
 use Rattle.characters.specs.Checksum.{total, checksumOf, checkText}
 use Rattle.forms.specs.Forms.{forms, onLine, lookIn, typeRow, formOf, dataType, slotsIn, countOf, slotsOf, widthIn, widthOf}
-use Rattle.records.specs.Records.{recordOf, paired}
+use Rattle.records.specs.Records.{recordOf}
 use Rattle.forms.specs.Lines.{lineOf}
 use Rattle.packets.specs.Packets.{leadOf, isDecimal, permits, ruled, permitsNumber}
 use Rattle.values.specs.Values.{permitsRecord, textOf, narrow, valueOf, numberWidth, permittedFrom, numberFits, permitted, permitsValue, permitsValues}
@@ -30,7 +30,7 @@ use Rattle.demand3.specs.Runs.{Runs, AllowedRuns}
 
 computed : Runs × AllowedRuns
 unfolding numeralOn numberOn leftOf inSet total checksumOf checkText lineOf forms onLine lookIn typeRow formOf dataType slotsIn countOf slotsOf
-    widthIn widthOf recordOf paired leadOf isDecimal permits ruled permitsNumber permitsRecord textOf narrow valueOf numberWidth permittedFrom numberFits
+    widthIn widthOf recordOf leadOf isDecimal permits ruled permitsNumber permitsRecord textOf narrow valueOf numberWidth permittedFrom numberFits
     permitted permitsValue permitsValues countText summedOf fieldOf frameOf f.bodyOf frameChecks dataOf outside wrongLetter badValue valuesIn
     misshapen fieldChecks recordIn checks readingOf telegramOf runOut sendable inRanges callFault startOf t0Limit pollOf isFailure answersTo
     permittedAnswer answeredBy judgeOf sentOf sendingOf failedOf offerFault offerOf pollingOf waitingOf tickOf hearOf u.mayReply u.keyFits k.keptFits

@@ -1,7 +1,7 @@
 -- Runs of our two ends, and what happens in them; `Verdicts` says what they show. Assumes nothing.
 use mathlib.Core.Path.{_≡_}
 use mathlib.Core.List.{List, [], _∷_, _++_}
-use Prim.Native.Nat.{ℕ}
+use Prim.Native.Nat.{ℕ, _+_, _*_}
 use Prim.Native.Char.{code}
 use Prim.Native.String.{String}
 use lib.Dec.{T as So}
@@ -74,7 +74,7 @@ usual = record {
 -- The customer's fault on line 3: the answer to t is lost, and another record waits when the master asks again. The same record arrives,
 -- and the other one at the next t.
 abbrev pub radio : ℕ → Record
-radio position = RadioData (record { fc = 1; d = 2; c = 3; mode = code "A"; left = code "A"; right = code "B"; position = position })
+radio position = RadioData (record { fc = 1; d = 2; c = 3; mode = code "A"; watch = code "A" * 256 + code "B"; position = position })
 
 abbrev pub poll : Tel (List ℕ)
 poll = (0, telegram "08t0Bt3E")

@@ -1,9 +1,10 @@
 -- A record's type and values, and the record of a type and values (01 'Telegram forms'). Assumes nothing.
-use Prim.Native.Nat.{ℕ, _+_, _*_, _/_, _%_}
+use mathlib.Core.Path.{_≡_}
+use Prim.Native.Nat.{ℕ}
 use Prim.Native.Char.{code}
 use mathlib.Core.Bool.{cond}
 use mathlib.Core.List.{List, [], _∷_}
-use lib.Dec.{ltb, eqb}
+use lib.Dec.{eqb}
 use lib.ListN.{getD}
 use Rattle.laws.specs.Truth.{pad}
 use Rattle.records.specs.declared.records.Radio.{Radio}
@@ -45,13 +46,9 @@ letterOf (RadioData k) = code "F"
 letterOf (RadioUpdate k t) = code "F"
 letterOf (Transponder k w x y z) = code "F"
 
--- V's two characters as one number of base 256; 0 where one of them is no character
-unfoldable pub paired : ℕ → ℕ → ℕ
-paired left right = cond (ltb left 256) (cond (ltb right 256) (left * 256 + right) 0) 0
-
 -- F D C M V P
 abbrev pub radioValues : Radio → List ℕ → List ℕ
-radioValues k more = k .fc ∷ k .d ∷ k .c ∷ k .mode ∷ paired (k .left) (k .right) ∷ k .position ∷ more
+radioValues k more = k .fc ∷ k .d ∷ k .c ∷ k .mode ∷ k .watch ∷ k .position ∷ more
 
 -- a number for each packet of the record's form, in order
 abbrev pub fieldsOf : Record → List ℕ
@@ -81,8 +78,7 @@ radioOf v =
       d = getD v 1 0;
       c = getD v 2 0;
       mode = getD v 3 0;
-      left = getD v 4 0 / 256;
-      right = getD v 4 0 % 256;
+      watch = getD v 4 0;
       position = getD v 5 0;
     }
 
@@ -103,3 +99,7 @@ recordOf kind v =
     (cond (eqb kind (code "O")) (RadioUpdate (radioOf v) (getD v 6 0))
     (cond (eqb kind (code "1")) (Transponder (radioOf v) (getD v 6 0) (getD v 7 0) (getD v 8 0) (getD v 9 0))
     (Approved (getD v 0 0))))))))))))))
+
+-- every record is the record of its own type and values
+abbrev pub RecordAgain : Type 0
+RecordAgain = (r : Record) → recordOf (typeOf r) (valuesOf r) ≡ r

@@ -2,16 +2,15 @@
 // A number is wide enough that a wrong one can be written down.
 ghost use mathlib.Core.Path.{_≡_};
 ghost use lib.ListN.{length};
-ghost use Rattle.records.specs.Records.{typeOf, letterOf, fieldsOf, valuesOf, recordOf, paired};
+ghost use Rattle.records.specs.Records.{typeOf, letterOf, fieldsOf, valuesOf, recordOf};
 
-// The packets F D C M V P, which K, O and 1 share. V's two characters are left and right.
+// The packets F D C M V P, which K, O and 1 share. The watch, V, is its two characters as one number, the left times 256 plus the right.
 pub struct Radio {
     pub fc: u32,
     pub d: u32,
     pub c: u32,
     pub mode: u32,
-    pub left: u32,
-    pub right: u32,
+    pub watch: u32,
     pub position: u32,
 }
 
@@ -157,18 +156,6 @@ pub fn count_of(rec: Record) -> usize
     }
 }
 
-// Two characters as one number; 0, which no packet permits, where one is no character.
-fn pair(left: u32, right: u32) -> u32
-    ensures { λ r. ⌜ r ≡ paired left right ⌝ }
-{
-    if left < 256 {
-        if right < 256 {
-            return left * 256 + right;
-        }
-    }
-    0
-}
-
 // The values of a record's packets, in their order, with 0 in the places behind them.
 pub fn values_of(rec: Record) -> [u32; 10]
     ensures { λ r. ⌜ r ≡ valuesOf rec ⌝ }
@@ -190,35 +177,26 @@ pub fn values_of(rec: Record) -> [u32; 10]
             speed,
             direction,
         } => [length, braking, speed, direction, 0, 0, 0, 0, 0, 0],
-        Record::RadioData(k) => {
-            let v = pair(k.left, k.right);
-            [k.fc, k.d, k.c, k.mode, v, k.position, 0, 0, 0, 0]
-        }
-        Record::RadioUpdate(k, t) => {
-            let v = pair(k.left, k.right);
-            [k.fc, k.d, k.c, k.mode, v, k.position, t, 0, 0, 0]
-        }
+        Record::RadioData(k) => [k.fc, k.d, k.c, k.mode, k.watch, k.position, 0, 0, 0, 0],
+        Record::RadioUpdate(k, t) => [k.fc, k.d, k.c, k.mode, k.watch, k.position, t, 0, 0, 0],
         Record::Transponder {
             radio,
             ceffect,
             deffect,
             sign,
             country,
-        } => {
-            let v = pair(radio.left, radio.right);
-            [
-                radio.fc,
-                radio.d,
-                radio.c,
-                radio.mode,
-                v,
-                radio.position,
-                ceffect,
-                deffect,
-                sign,
-                country,
-            ]
-        }
+        } => [
+            radio.fc,
+            radio.d,
+            radio.c,
+            radio.mode,
+            radio.watch,
+            radio.position,
+            ceffect,
+            deffect,
+            sign,
+            country,
+        ],
     }
 }
 
@@ -231,8 +209,7 @@ fn radio_of(v: [u32; 10]) -> Radio
         d: v[1],
         c: v[2],
         mode: v[3],
-        left: v[4] / 256,
-        right: v[4] % 256,
+        watch: v[4],
         position: v[5],
     }
 }

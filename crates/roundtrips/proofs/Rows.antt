@@ -1,14 +1,12 @@
 -- What the table of forms says of a row that it finds: each row passes the same tests, computed once. Assumes nothing.
 use mathlib.Core.Path.{_≡_, refl}
-use mathlib.Core.Bool.{Bool, true, cond}
+use mathlib.Core.Bool.{Bool, true}
 use mathlib.Core.List.{List, [], _∷_}
 use Prim.Native.Nat.{ℕ, _≤_}
-use Prim.Native.Char.{code}
 use lib.Dec.{eqb, leb}
 use lib.ListN.{length, getD}
 use borrow.Author.Tests.{eqb-true, leb-true}
-use Rattle.laws.specs.Text.{codes}
-use Rattle.laws.specs.Truth.{oneOf, every, All}
+use Rattle.laws.specs.Truth.{every, All}
 use Rattle.laws.proofs.Passes.{every-all}
 use Rattle.characters.specs.Characters.{inSet}
 use Rattle.forms.specs.Forms.{Slot, forms, firstLetter, formOf, slotsIn, countOf, slotsOf, widthIn, widthOf}
@@ -26,10 +24,6 @@ noSlot = record { letter = 0; len = 0 }
 abbrev pub narrowSlot : Slot → Bool
 narrowSlot p = narrow (p .letter) (p .len)
 
--- the types that carry F D C M V P
-abbrev pub isRadio : ℕ → Bool
-isRadio kind = oneOf (codes "KO1") kind
-
 -- what each row passes, whatever the values of a record are
 abbrev tests : List ℕ → Form → List Bool
 tests vs f =
@@ -39,8 +33,6 @@ tests vs f =
     every (λ (p : Slot). inSet (p .letter)) (slotsOf f) ∷
     eqb (length (slotsOf f)) (length (fieldsOf (recordOf (f .kind) vs))) ∷
     eqb (typeOf (recordOf (f .kind) vs)) (f .kind) ∷
-    cond (isRadio (f .kind)) (eqb (getD (slotsOf f) 4 noSlot .letter) (code "V")) true ∷
-    cond (isRadio (f .kind)) (eqb (getD (slotsOf f) 4 noSlot .len) 3) true ∷
     every narrowSlot (slotsOf f) ∷
     eqb (getD (slotsOf f) 0 noSlot .letter) (firstLetter f) ∷
     eqb (letterOf (recordOf (f .kind) vs)) (firstLetter f) ∷
@@ -61,7 +53,6 @@ pub record Row (kind : ℕ) (f : Form) : Type 0 where
   pub letters : every (λ (p : Slot). inSet (p .letter)) (slotsOf f) ≡ true
   pub count : (vs : List ℕ) → length (slotsOf f) ≡ length (fieldsOf (recordOf kind vs))
   pub type : (vs : List ℕ) → typeOf (recordOf kind vs) ≡ kind
-  pub watch : isRadio kind ≡ true → (getD (slotsOf f) 4 noSlot .letter ≡ code "V") × (getD (slotsOf f) 4 noSlot .len ≡ 3)
   pub values-narrow : every narrowSlot (slotsOf f) ≡ true
   pub first : getD (slotsOf f) 0 noSlot .letter ≡ firstLetter f
   pub letter : (vs : List ℕ) → letterOf (recordOf kind vs) ≡ firstLetter f
@@ -75,10 +66,9 @@ told f h =
       letters = a [] .1 .1 .1 .0;
       count = λ vs. eqb-true _ _ (a vs .1 .1 .1 .1 .0);
       type = λ vs. eqb-true _ _ (a vs .1 .1 .1 .1 .1 .0);
-      watch = λ e. (eqb-true _ _ (rw e at (a [] .1 .1 .1 .1 .1 .1 .0)), eqb-true _ _ (rw e at (a [] .1 .1 .1 .1 .1 .1 .1 .0)));
-      values-narrow = a [] .1 .1 .1 .1 .1 .1 .1 .1 .0;
-      first = eqb-true _ _ (a [] .1 .1 .1 .1 .1 .1 .1 .1 .1 .0);
-      letter = λ vs. eqb-true _ _ (a vs .1 .1 .1 .1 .1 .1 .1 .1 .1 .1 .0);
+      values-narrow = a [] .1 .1 .1 .1 .1 .1 .0;
+      first = eqb-true _ _ (a [] .1 .1 .1 .1 .1 .1 .1 .0);
+      letter = λ vs. eqb-true _ _ (a vs .1 .1 .1 .1 .1 .1 .1 .1 .0);
     }
   where
     a : (vs : List ℕ) → All (λ (t : Bool). t ≡ true) (tests vs f)

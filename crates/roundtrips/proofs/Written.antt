@@ -9,6 +9,7 @@ use lib.ListN.{length, getD}
 use Rattle.forms.specs.Forms.{Slot, slotsOf, widthOf}
 use Rattle.forms.proofs.Found.{found-again}
 use Rattle.records.specs.Records.{typeOf, letterOf, fieldsOf, valuesOf}
+use Rattle.records.proofs.Again.{record-again}
 use Rattle.values.specs.Values.{rowOf, permitsRecord}
 use Rattle.records.specs.declared.records.Record.{Record}
 use Rattle.reading.specs.Field.{rowIn, dataOf, outside, valuesIn}
@@ -17,7 +18,7 @@ use Rattle.writing.specs.Writing.{telegramOf}
 use Rattle.reading.specs.declared.answers.Spot.the-variants.{Nowhere}
 use Rattle.roundtrips.proofs.Rows.{Row, row}
 use Rattle.roundtrips.proofs.Fields.{Clear, set-inside, data-length, data-first, data-letters, data-set, data-permitted, data-values}
-use Rattle.roundtrips.proofs.Records.{permitted-found, permitted-line, permitted-values, record-again}
+use Rattle.roundtrips.proofs.Records.{permitted-found, permitted-line, permitted-values}
 use Rattle.roundtrips.proofs.Frames.{Framed, frame-length, frame-kind, frame-letter, frame-number, frame-field, frame-framed}
 use Rattle.roundtrips.proofs.Checks.{Carried}
 
@@ -41,7 +42,7 @@ module _ (line : ℕ) (rec : Record) (h : permitsRecord line rec ≡ true) where
   -- the values are read back from their packets
   field-values : valuesIn 10 slots field ≡ valuesOf rec
   field-values =
-      let e : length slots ≡ length (fieldsOf rec) = rw (record-again line rec h) at (known .count (valuesOf rec)) in
+      let e : length slots ≡ length (fieldsOf rec) = rw (record-again rec) at (known .count (valuesOf rec)) in
       data-values line (typeOf rec) 10 slots (fieldsOf rec) e (known .values-narrow) (permitted-values line rec h)
 
   -- its bytes are of the set, its letters the form's and its values permitted
@@ -78,7 +79,7 @@ module _ (line : ℕ) (rec : Record) (h : permitsRecord line rec ≡ true) where
   -- and it carries the record
   pub written-carries : (number : ℕ) → recordIn line (telegramOf line rec number) ≡ rec
   unfolding telegramOf recordIn
-  written-carries number = rw (written-row number, frame-kind (typeOf rec) number field, frame-field (typeOf rec) number field, field-values) (record-again line rec h)
+  written-carries number = rw (written-row number, frame-kind (typeOf rec) number field, frame-field (typeOf rec) number field, field-values) (record-again rec)
 
   -- its length is the form's width and 8 more
   pub written-length : (number : ℕ) → length (telegramOf line rec number) ≡ 8 + widthOf (rowOf line rec .form)

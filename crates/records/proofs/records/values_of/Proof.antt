@@ -39,20 +39,11 @@ enum-known-rec-11 c = search needs
 enum-known-rec-12 : tie.Need-enum-known-rec-12
 enum-known-rec-12 c = search needs
 
-pair-requires : tie.Need-pair-requires
-pair-requires c κs = search needs
-
 enum-known-rec-13 : tie.Need-enum-known-rec-13
 enum-known-rec-13 c = search needs
 
-pair-requires-2 : tie.Need-pair-requires-2
-pair-requires-2 c κs = search needs
-
 enum-known-rec-14 : tie.Need-enum-known-rec-14
 enum-known-rec-14 c = search needs
-
-pair-requires-3 : tie.Need-pair-requires-3
-pair-requires-3 c κs = search needs
 
 returns : tie.Need-returns
 returns c = rw (c .before .rec .given .1)
@@ -88,13 +79,13 @@ returns-11 : tie.Need-returns-11
 returns-11 c = rw (c .before .rec11 .given .1)
 
 returns-12 : tie.Need-returns-12
-returns-12 c = rw (c .before .before .rec12 .given .1, c .pair .ensures)
+returns-12 c = rw (c .before .rec12 .given .1)
 
 returns-13 : tie.Need-returns-13
-returns-13 c = rw (c .before .before .rec13 .given .1, c .pair2 .ensures)
+returns-13 c = rw (c .before .rec13 .given .1)
 
 returns-14 : tie.Need-returns-14
-returns-14 c = rw (c .before .before .rec14 .given .1, c .pair3 .ensures)
+returns-14 c = rw (c .before .rec14 .given .1)
 
 pub values-of-spec : {M : Type 1} → statement M
 values-of-spec =
@@ -112,11 +103,8 @@ values-of-spec =
     enum-known-rec-10
     enum-known-rec-11
     enum-known-rec-12
-    pair-requires
     enum-known-rec-13
-    pair-requires-2
     enum-known-rec-14
-    pair-requires-3
     returns
     returns-2
     returns-3

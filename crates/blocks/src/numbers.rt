@@ -1,0 +1,51 @@
+// Numbers of 32 bits as four bytes, the highest first.
+ghost use mathlib.Core.Path.{_≡_};
+ghost use Rattle.text.specs.Putting.{puts};
+ghost use Rattle.blocks.specs.Layout.{joined, each};
+ghost use Rattle.blocks.specs.Numbers.{fourBytes, fourSaid};
+use characters::slices::byte_at;
+use characters::slices::part;
+use text::putting::put_byte;
+
+// Puts a number at a place, and answers the place behind it.
+pub fn put_four(out: &mut [u8], at: usize, n: u32) -> usize
+    ensures { λ r. ⌜ (r, now (out .exit)) ≡ puts (fourBytes n) at (now (out .entry)) ⌝ }
+{
+    let a = put_byte(out, at, (n / 16777216 % 256) as u8);
+    let b = put_byte(out, a, (n / 65536 % 256) as u8);
+    let c = put_byte(out, b, (n / 256 % 256) as u8);
+    put_byte(out, c, (n % 256) as u8)
+}
+
+// The number that the first four bytes say, 0 for each that is not there.
+pub fn four_said(s: &[u8]) -> u32
+    ensures { λ r. ⌜ r ≡ fourSaid (now (s .entry)) ⌝ }
+{
+    let a = byte_at(s, 0);
+    let b = byte_at(s, 1);
+    let c = byte_at(s, 2);
+    let d = byte_at(s, 3);
+    (a as u32) * 16777216 + (b as u32) * 65536 + (c as u32) * 256 + (d as u32)
+}
+
+// Puts numbers one behind the other.
+pub(crate) fn put_fours(out: &mut [u8], at: usize, v: &[u32]) -> usize
+    ensures { λ r. ⌜ (r, now (out .exit)) ≡ puts (joined fourBytes (now (v .entry))) at (now (out .entry)) ⌝ }
+{
+    let mut place = at;
+    for j in 0..v.len() {
+        place = put_four(out, place, v[j]);
+    }
+    place
+}
+
+// The ten numbers that forty bytes say.
+pub(crate) fn ten_said(s: &[u8]) -> [u32; 10]
+    ensures { λ r. ⌜ r ≡ each 4 fourSaid 10 (now (s .entry)) ⌝ }
+{
+    let mut v = [0u32; 10];
+    for j in 0..10usize {
+        v[j] = four_said(part(s, 4 * j, 4));
+    }
+    v
+}

@@ -1,0 +1,4 @@
+pub mod Result
+pub mod Telegrams
+pub mod Desks
+pub mod Masters

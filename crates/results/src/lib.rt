@@ -1,0 +1,5 @@
+// What every call of the C face answers, as numbers (include/in656.h).
+pub mod desks;
+pub mod masters;
+pub mod result;
+pub mod telegrams;
