@@ -1,16 +1,16 @@
 -- A record's block, put and read. Assumes nothing.
-use mathlib.Core.Path.{_≡_, refl, sym, ap, ap₂, _∙_}
-use mathlib.Core.Bool.{Bool, true, false, cond}
+use mathlib.Core.Path.{_≡_, refl, sym, ap, _∙_}
+use mathlib.Core.Bool.{Bool, true, cond}
 use mathlib.Core.List.{List, [], _∷_, _++_}
-use Prim.Native.Nat.{ℕ, zero, suc, _+_, _*_, _<_, _≤_, _^_}
+use Prim.Native.Nat.{ℕ, zero, suc, _<_, _^_}
 use native.Mathlib.Omega.{arith}
 use lib.Dec.{eqb, lit<}
-use lib.ListN.{length, take, drop, getD, replicate, length-append}
+use lib.ListN.{length, getD, replicate, length-append}
 use lib.Seq.{take-at}
 use borrow.Author.Tests.{eq-eqb, ne-eqb}
 use Rattle.laws.specs.Truth.{All, pad}
 use Rattle.laws.proofs.Passes.{on-test}
-use Rattle.records.specs.Records.{typeOf, fieldsOf, valuesOf, recordOf}
+use Rattle.records.specs.Records.{typeOf, fieldsOf, valuesOf}
 use Rattle.records.specs.Refusals.{No, no, refusalOf}
 use Rattle.records.specs.declared.refusals.Refusal.{Refusal}
 use Rattle.records.specs.declared.records.Record.{Record}
@@ -20,9 +20,9 @@ use Rattle.text.specs.Fields.{sameText}
 use Rattle.text.specs.Putting.{puts}
 use Rattle.text.proofs.Puts.{then}
 use Rattle.text.proofs.Rows.{same-is-equal, equal-is-same}
-use Rattle.blocks.specs.Layout.{joined, each, stretch, filled}
+use Rattle.blocks.specs.Layout.{joined}
 use Rattle.blocks.specs.Numbers.{fourBytes, fourSaid}
-use Rattle.blocks.specs.Record.{valuesLength, textLength, recordLength, recordBytes, recordAt, Holding, is, refused, recordIn, OneFound, Narrow, RecordBack, RecordBlock}
+use Rattle.blocks.specs.Record.{valuesLength, textLength, recordLength, recordBytes, recordAt, is, refused, recordIn, OneFound, Narrow, RecordBack, RecordBlock}
 use Rattle.blocks.specs.declared.record.Found.the-variants.{Is, Refused}
 use Rattle.blocks.proofs.Laid.{filled-with, joined-length, each-back}
 use Rattle.blocks.proofs.Fours.{four-length, four-back}
@@ -86,7 +86,7 @@ first-byte rec = refl
 
 pub record-back : RecordBack
 record-back rec b h l =
-    rw (filled-with (recordBytes rec) b (l ∙ sym (record-length rec)))
+    rw (filled-with recordLength (recordBytes rec) b l)
     (sym (other-bytes (recordBytes rec) rec (typeOf rec) (typeOf rec) (record-length rec) (sym (made-again rec h)) refl (sym (first-byte rec)) true refl (sym (equal-is-same (recordBytes rec)))))
 
 -- a refusal is no record

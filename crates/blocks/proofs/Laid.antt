@@ -1,7 +1,7 @@
 -- Things one behind the other, put and taken. Assumes nothing.
 use mathlib.Core.Path.{_≡_, refl, sym, ap, _∙_}
 use mathlib.Core.Bool.{Bool}
-use mathlib.Core.List.{List, [], _∷_, _++_, append-nil, append-assoc}
+use mathlib.Core.List.{List, [], _∷_, _++_, append-nil}
 use Prim.Native.Nat.{ℕ, zero, suc, _+_, _*_, _≤_, _<_}
 use native.Mathlib.Omega.{arith}
 use native.Mathlib.Numerals.{add-one}
@@ -27,17 +27,17 @@ pub again-same : (t out b : List ℕ) (r : ℕ) (x : List ℕ) (same : Bool) →
 again-same t out b r x same h e g = g ∙ ap (λ (y : List ℕ). sameText y b) (fills t out r x h e)
 
 -- a block of their length takes bytes
-pub filled-with : (t b : List ℕ) → length b ≡ length t → filled t b ≡ t
+pub filled-with : (size : ℕ) (t b : List ℕ) → length b ≡ size → filled size t b ≡ t
 unfolding filled
-filled-with t b h = rw (eq-eqb (length b) (length t) h)
+filled-with size t b h = rw (eq-eqb (length b) size h)
 
-pub fill : (t b : List ℕ) (r : ℕ) (x : List ℕ) → length b ≡ length t → (r, x) ≡ puts t 0 b → x ≡ filled t b
-fill t b r x h e = fills t b r x h e ∙ sym (filled-with t b h)
+pub fill : (size : ℕ) (t b : List ℕ) (r : ℕ) (x : List ℕ) → length t ≡ size → length b ≡ size → (r, x) ≡ puts t 0 b → x ≡ filled size t b
+fill size t b r x l h e = fills t b r x (h ∙ sym l) e ∙ sym (filled-with size t b h)
 
 -- any other does not
-pub unfilled : (t b : List ℕ) → (length b ≡ length t → ⊥) → b ≡ filled t b
+pub unfilled : (size : ℕ) (t b : List ℕ) → (length b ≡ size → ⊥) → b ≡ filled size t b
 unfolding filled
-unfilled t b h = rw (ne-eqb (length b) (length t) h)
+unfilled size t b h = rw (ne-eqb (length b) size h)
 
 module _ {A : Type 0} (bytesOf : A → List ℕ) where
   -- a thing, and those behind it

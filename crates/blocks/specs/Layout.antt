@@ -19,6 +19,6 @@ each width thingIn (suc n) b = thingIn (take width b) ∷ each width thingIn n (
 abbrev pub stretch : ℕ → ℕ → List ℕ → List ℕ
 stretch at width b = take width (drop at b)
 
--- a block of just their length takes these bytes, and any other stays as it was
-unfoldable pub filled : List ℕ → List ℕ → List ℕ
-filled bytes b = cond (eqb (length b) (length bytes)) bytes b
+-- a block of just this length takes these bytes, and any other stays as it was
+unfoldable pub filled : ℕ → List ℕ → List ℕ → List ℕ
+filled size bytes b = cond (eqb (length b) size) bytes b

@@ -58,7 +58,7 @@ Narrow rec = All (λ (n : ℕ). n < 2 ^ 32) (fieldsOf rec)
 
 -- reading what was put gives the record, for every record
 abbrev pub RecordBack : Type 0
-RecordBack = (rec : Record) (b : List ℕ) → Narrow rec → length b ≡ recordLength → recordIn (filled (recordBytes rec) b) ≡ is rec
+RecordBack = (rec : Record) (b : List ℕ) → Narrow rec → length b ≡ recordLength → recordIn (filled recordLength (recordBytes rec) b) ≡ is rec
 
 -- a block in which a record is read is that record's block
 abbrev pub RecordBlock : Type 0

@@ -4,7 +4,7 @@ ghost use mathlib.Core.Path.{_≡_};
 ghost use Rattle.text.specs.Fields.{sameText};
 ghost use Rattle.text.specs.Putting.{puts};
 ghost use Rattle.blocks.specs.Layout.{filled};
-ghost use Rattle.blocks.specs.Record.{recordBytes, recordAt, foundOf, recordIn};
+ghost use Rattle.blocks.specs.Record.{recordLength, recordBytes, recordAt, foundOf, recordIn};
 use crate::numbers::put_fours;
 use crate::numbers::ten_said;
 use characters::slices::byte_at;
@@ -81,7 +81,7 @@ pub fn record_in(block: &[u8]) -> Found
 
 // Fills a block of just its length with a record; any other stays as it was.
 pub fn put_record(block: &mut [u8], rec: Record)
-    ensures { λ _. ⌜ now (block .exit) ≡ filled (recordBytes rec) (now (block .entry)) ⌝ }
+    ensures { λ _. ⌜ now (block .exit) ≡ filled recordLength (recordBytes rec) (now (block .entry)) ⌝ }
 {
     if block.len() == RECORD_LENGTH {
         put_block(block, 0, rec);

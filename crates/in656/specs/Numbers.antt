@@ -1,12 +1,14 @@
 -- Numbers of the header as the rules take them, and what a record block means to a call (include/in656.h). Assumes nothing.
+use mathlib.Core.Path.{_≡_}
 use Prim.Native.Nat.{ℕ}
-use mathlib.Core.Bool.{Bool, true, cond}
+use mathlib.Core.Bool.{Bool, true, false, cond}
 use mathlib.Core.List.{List}
 use lib.Dec.{ltb, eqb}
 use lib.ListN.{getD, replicate}
-use Rattle.records.specs.Records.{recordOf}
+use Rattle.records.specs.Records.{typeOf, recordOf}
 use Rattle.records.specs.declared.records.Record.{Record}
 use Rattle.records.specs.declared.records.Record.the-variants.{Approved}
+use Rattle.values.specs.Values.{permitsRecord}
 use Rattle.blocks.specs.Record.{Holding, is, refused, recordIn}
 
 -- how many bytes a result has: eight fields of four and two of eight
@@ -42,3 +44,7 @@ meantBy (refused x) kind = cond (eqb (x .number) 13) (outside kind) (Approved 0)
 
 abbrev pub recordMeant : List ℕ → Record
 recordMeant block = meantBy (recordIn block) (getD block 0 0)
+
+-- no line permits that record of any type
+abbrev pub NoneOutside : Type 0
+NoneOutside = (line : ℕ) (r : Record) → permitsRecord line (outside (typeOf r)) ≡ false

@@ -23,7 +23,7 @@ Call = In656Result × List ℕ
 
 -- the record block behind a reading: filled by its record, or as it was
 abbrev pub filledBy : Answer → List ℕ → List ℕ
-filledBy (accepted rec number) block = filled (recordBytes rec) block
+filledBy (accepted rec number) block = filled recordLength (recordBytes rec) block
 filledBy (refused x) block = block
 
 -- 15, then 14 where the block has another length, then the reading

@@ -1,7 +1,6 @@
 -- `put_record` fills a block of just its length. Assumes nothing.
-use mathlib.Core.Path.{sym, _∙_}
 use denote.Ref.{now}
-use Rattle.blocks.specs.Record.{recordBytes}
+use Rattle.blocks.specs.Record.{recordLength, recordBytes}
 use Rattle.blocks.proofs.Laid.{fill, unfilled}
 use Rattle.blocks.proofs.Found.{record-length}
 use borrow.Author.Needs.{needs}
@@ -18,12 +17,12 @@ returns : tie.Need-returns
 returns c =
     let p = c .before .before in
     let a = p .before .before .before .before .args in
-    fill (recordBytes (a .rec)) (now (a .block)) _ _ (p .before .before .if1 .taken ∙ sym (record-length (a .rec))) (p .put-block .ensures)
+    fill recordLength (recordBytes (a .rec)) (now (a .block)) _ _ (record-length (a .rec)) (p .before .before .if1 .taken) (p .put-block .ensures)
 
 returns-2 : tie.Need-returns-2
 returns-2 c =
     let a = c .before .before .args in
-    unfilled (recordBytes (a .rec)) (now (a .block)) (λ e. c .if1 .left (e ∙ record-length (a .rec)))
+    unfilled recordLength (recordBytes (a .rec)) (now (a .block)) (c .if1 .left)
 
 pub put-record-spec : {M : Type 1} → statement M
 put-record-spec = tie.close (tie.spec put-block-requires same-length returns returns-2)

@@ -1,0 +1,6 @@
+pub mod Parts
+pub mod Loads
+pub mod Puts
+pub mod GathererBlock
+pub mod MasterBlock
+pub mod DeskBlock

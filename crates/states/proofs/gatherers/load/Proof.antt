@@ -1,0 +1,31 @@
+-- `load` compares before it answers. Assumes nothing.
+use mathlib.Core.Path.{sym, _∙_}
+use denote.Ref.{now}
+use Rattle.states.proofs.Loads.{loads, loads-blank}
+use Rattle.states.specs.Gatherers.{gathererBytes, gathererAt, blank}
+use borrow.Author.Needs.{needs}
+use Rattle.states.proofs.gatherers.load.Statement.{statement}
+use Rattle.states.proofs.gatherers.load.Tie as tie
+
+gatherer-at-requires : tie.Need-gatherer-at-requires
+gatherer-at-requires c κs = search needs
+
+is-block-requires : tie.Need-is-block-requires
+is-block-requires c κs = search needs
+
+blank-requires : tie.Need-blank-requires
+blank-requires c κs = search needs
+
+returns : tie.Need-returns
+returns c =
+    loads gathererBytes gathererAt blank (now (c .before .before .before .before .args .block)) _ (c .before .before .gatherer-at .ensures) (sym (c .if1 .taken) ∙ c .before .is-block .ensures)
+
+returns-2 : tie.Need-returns-2
+returns-2 c =
+    let p = c .before .before in
+    loads-blank gathererBytes gathererAt blank (now (p .before .before .before .args .block)) _ _ (p .before .gatherer-at .ensures)
+    (sym (c .before .if1 .left) ∙ p .is-block .ensures) (c .blank .ensures)
+
+pub load-spec : {M : Type 1} → statement M
+load-spec =
+    tie.close (tie.spec gatherer-at-requires is-block-requires blank-requires returns returns-2)

@@ -1,0 +1,28 @@
+-- `save` fills a block of just its length. Assumes nothing.
+use denote.Ref.{now}
+use Rattle.blocks.proofs.Laid.{fill, unfilled}
+use Rattle.states.specs.Gatherers.{gathererLength, gathererBytes}
+use Rattle.states.proofs.GathererBlock.{gatherer-length}
+use borrow.Author.Needs.{needs}
+use Rattle.states.proofs.gatherers.save.Statement.{statement}
+use Rattle.states.proofs.gatherers.save.Tie as tie
+
+put-gatherer-requires : tie.Need-put-gatherer-requires
+put-gatherer-requires c κs = search needs
+
+same-length : tie.Need-same-length
+same-length c = search needs
+
+returns : tie.Need-returns
+returns c =
+    let p = c .before .before in
+    let a = p .before .before .before .before .args in
+    fill gathererLength (gathererBytes (a .g)) (now (a .block)) _ _ (gatherer-length (a .g) (search needs)) (p .before .before .if1 .taken) (p .put-gatherer .ensures)
+
+returns-2 : tie.Need-returns-2
+returns-2 c =
+    let a = c .before .before .args in
+    unfilled gathererLength (gathererBytes (a .g)) (now (a .block)) (c .if1 .left)
+
+pub save-spec : {M : Type 1} → statement M
+save-spec = tie.close (tie.spec put-gatherer-requires same-length returns returns-2)
