@@ -1,12 +1,64 @@
 -- A call on bytes is the call by value, through what its parts promise. Assumes nothing.
-use mathlib.Core.Path.{_≡_}
-use mathlib.Core.List.{List}
+use mathlib.Core.Path.{_≡_, ap}
+use mathlib.Core.List.{List, []}
 use Prim.Native.Nat.{ℕ}
+use lib.ListN.{length}
+use borrow.Author.Tests.{eq-eqb, ne-eqb}
 use Rattle.reading.specs.Answers.{Outcome}
 use Rattle.writing.specs.Writing.{Write}
+use Rattle.desk.specs.declared.state.Desk.{Desk}
+use Rattle.desk.specs.Answers as d
+use Rattle.desk.specs.Hearing as dh
+use Rattle.master.specs.declared.state.Master.{Master}
+use Rattle.master.specs.Answers as m
+use Rattle.master.specs.Sending.{Behind}
+use Rattle.master.specs.Hearing as mh
+use Rattle.blocks.specs.Record.{recordLength}
+use Rattle.states.specs.Desks as ds
+use Rattle.states.specs.Masters as ms
 use Rattle.results.specs.declared.result.In656Result.{In656Result}
 use Rattle.results.specs.Telegrams.{writeResult}
-use Rattle.in656.specs.Telegrams.{wrote}
+use Rattle.results.specs.Desks.{heardResult}
+use Rattle.results.specs.Masters.{toldResult}
+use Rattle.in656.specs.Telegrams.{Call, wrote}
+use Rattle.in656.specs.Desks as desk
+use Rattle.in656.specs.Masters as master
 
 pub written : (r : In656Result) (o : Outcome) (out : List ℕ) (w : Write) → r ≡ writeResult o → (o, out) ≡ w → (r, out) ≡ wrote w
 written r o out w p q = rw (p, ← q)
+
+-- the desk's hearing with a record block of another length
+pub desk-refuses : (b : List ℕ) (time : ℕ) (frame block out : List ℕ) (x y : Desk) (told : d.Told) (o : List ℕ) (r : In656Result)
+    → x ≡ ds.loadOf b → (length block ≡ recordLength → ⊥) → (y, told, o) ≡ dh.hearOf x time frame [] → r ≡ heardResult told
+    → (r, (b, (block, out))) ≡ desk.deskHear b time frame block out
+unfolding desk.deskHear
+desk-refuses b time frame block out x y told o r l n q p = rw (ne-eqb _ _ n, ← l, ← q, p)
+
+-- the desk's hearing
+pub desk-hears : (b : List ℕ) (time : ℕ) (frame block out : List ℕ) (x y : Desk) (told : d.Told) (o s k : List ℕ) (r : In656Result)
+    → x ≡ ds.loadOf b → length block ≡ recordLength → (y, told, o) ≡ dh.hearOf x time frame out → (r, (s, k)) ≡ desk.heardParts y told b block
+    → (r, (s, (k, o))) ≡ desk.deskHear b time frame block out
+unfolding desk.deskHear desk.heard desk.heardParts
+desk-hears b time frame block out x y told o s k r l e q p =
+    rw (eq-eqb _ _ e, ← l, ← q) (ap (λ (w : In656Result × (List ℕ × List ℕ)). (w .0, (w .1 .0, (w .1 .1, o)))) p)
+
+-- a call of the master that may send
+pub master-sends : (r : In656Result) (s o b : List ℕ) (x : Master) (told : m.Told) (h : Behind)
+    → (r, s) ≡ master.stepped (x, told) b → (x, (told, o)) ≡ h → (r, (s, o)) ≡ master.sends h b
+unfolding master.stepped
+master-sends r s o b x told h p q = rw (← q) (ap (λ (w : Call). (w .0, (w .1, o))) p)
+
+-- the master's hearing with a record block of another length
+pub master-refuses : (b : List ℕ) (time : ℕ) (frame block out : List ℕ) (x y : Master) (told : m.Told) (o : List ℕ) (r : In656Result)
+    → x ≡ ms.loadOf b → (length block ≡ recordLength → ⊥) → (y, (told, o)) ≡ mh.hearOf x time frame [] → r ≡ toldResult told
+    → (r, (b, (block, out))) ≡ master.masterHear b time frame block out
+unfolding master.masterHear
+master-refuses b time frame block out x y told o r l n q p = rw (ne-eqb _ _ n, ← l, ← q, p)
+
+-- the master's hearing
+pub master-hears : (b : List ℕ) (time : ℕ) (frame block out : List ℕ) (x y : Master) (told : m.Told) (o s k : List ℕ) (r : In656Result)
+    → x ≡ ms.loadOf b → length block ≡ recordLength → (y, (told, o)) ≡ mh.hearOf x time frame out → (r, s) ≡ master.stepped (y, told) b
+    → k ≡ master.answerBlock told block → (r, (s, (k, o))) ≡ master.masterHear b time frame block out
+unfolding master.masterHear master.heard master.stepped
+master-hears b time frame block out x y told o s k r l e q p f =
+    rw (eq-eqb _ _ e, ← l, ← q, f) (ap (λ (w : Call). (w .0, (w .1, (master.answerBlock told block, o)))) p)

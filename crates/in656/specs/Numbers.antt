@@ -4,7 +4,7 @@ use Prim.Native.Nat.{ℕ}
 use mathlib.Core.Bool.{Bool, true, false, cond}
 use mathlib.Core.List.{List}
 use lib.Dec.{ltb, eqb}
-use lib.ListN.{getD, replicate}
+use lib.ListN.{length, getD, replicate}
 use Rattle.records.specs.Records.{typeOf, recordOf}
 use Rattle.records.specs.declared.records.Record.{Record}
 use Rattle.records.specs.declared.records.Record.the-variants.{Approved}
@@ -26,6 +26,14 @@ lineIn n = byteOr 0 n
 -- a telegram's number; 2, which is out of its range, for a wider one
 abbrev pub numberIn : ℕ → ℕ
 numberIn n = byteOr 2 n
+
+-- a key position; 0, which is none, for a wider number
+abbrev pub keyIn : ℕ → ℕ
+keyIn n = byteOr 0 n
+
+-- the line that a start takes: none where the state has another length
+unfoldable pub lineFor : ℕ → List ℕ → ℕ → ℕ
+lineFor size state line = cond (eqb (length state) size) (lineIn line) 0
 
 -- a block is of a record's type, its values in their ranges or not
 abbrev pub typed : Holding → Bool

@@ -1,4 +1,7 @@
 // The C face (include/in656.h): the exported functions, on numbers and lent bytes.
+pub mod desks;
+pub mod gatherers;
 pub mod lengths;
+pub mod masters;
 pub mod numbers;
 pub mod telegrams;

@@ -3,7 +3,7 @@ ghost use mathlib.Core.Path.{_≡_};
 ghost use lib.ListN.{getD};
 ghost use Rattle.records.specs.Refusals.{refusalOf};
 ghost use Rattle.blocks.specs.Record.{refused, recordIn};
-ghost use Rattle.in656.specs.Numbers.{byteOr, typed, outside, meantBy, recordMeant};
+ghost use Rattle.in656.specs.Numbers.{byteOr, lineFor, typed, outside, meantBy, recordMeant};
 use blocks::record::Found;
 use blocks::record::record_in;
 use characters::slices::byte_at;
@@ -17,6 +17,17 @@ pub(crate) fn byte_or(other: u8, n: u32) -> u8
     ensures { λ r. ⌜ r ≡ byteOr other n ⌝ }
 {
     if n < 256 { n as u8 } else { other }
+}
+
+// The line that a start takes: none where the state has another length.
+pub(crate) fn line_for(size: usize, state: &[u8], line: u32) -> u8
+    ensures { λ r. ⌜ r ≡ lineFor size (now (state .entry)) line ⌝ }
+{
+    if state.len() == size {
+        byte_or(0, line)
+    } else {
+        0
+    }
 }
 
 // The record of a type with values that no packet permits.

@@ -17,28 +17,112 @@ refusing x = record { refusal = x .number; outcome = 0; detail = 0; contents = 0
 
 -- with the refusal of a frame that was heard
 abbrev pub withContents : In656Result → No → In656Result
-withContents r x = record { refusal = r .refusal; outcome = r .outcome; detail = r .detail; contents = x .number; place = x .place; written = r .written; number = r .number; count = r .count; lost = r .lost; filled = r .filled }
+withContents r x =
+    record {
+      refusal = r .refusal;
+      outcome = r .outcome;
+      detail = r .detail;
+      contents = x .number;
+      place = x .place;
+      written = r .written;
+      number = r .number;
+      count = r .count;
+      lost = r .lost;
+      filled = r .filled;
+    }
 
 -- with a place: of a search, where the telegram begins
 abbrev pub withPlace : In656Result → ℕ → In656Result
-withPlace r place = record { refusal = r .refusal; outcome = r .outcome; detail = r .detail; contents = r .contents; place = place; written = r .written; number = r .number; count = r .count; lost = r .lost; filled = r .filled }
+withPlace r place =
+    record {
+      refusal = r .refusal;
+      outcome = r .outcome;
+      detail = r .detail;
+      contents = r .contents;
+      place = place;
+      written = r .written;
+      number = r .number;
+      count = r .count;
+      lost = r .lost;
+      filled = r .filled;
+    }
 
 -- with how many bytes were written, or how many a telegram has
 abbrev pub withWritten : In656Result → ℕ → In656Result
-withWritten r n = record { refusal = r .refusal; outcome = r .outcome; detail = r .detail; contents = r .contents; place = r .place; written = n; number = r .number; count = r .count; lost = r .lost; filled = r .filled }
+withWritten r n =
+    record {
+      refusal = r .refusal;
+      outcome = r .outcome;
+      detail = r .detail;
+      contents = r .contents;
+      place = r .place;
+      written = n;
+      number = r .number;
+      count = r .count;
+      lost = r .lost;
+      filled = r .filled;
+    }
 
 -- with the telegram's number
 abbrev pub withNumber : In656Result → ℕ → In656Result
-withNumber r number = record { refusal = r .refusal; outcome = r .outcome; detail = r .detail; contents = r .contents; place = r .place; written = r .written; number = number; count = r .count; lost = r .lost; filled = r .filled }
+withNumber r number =
+    record {
+      refusal = r .refusal;
+      outcome = r .outcome;
+      detail = r .detail;
+      contents = r .contents;
+      place = r .place;
+      written = r .written;
+      number = number;
+      count = r .count;
+      lost = r .lost;
+      filled = r .filled;
+    }
 
 -- with the master's sending count
 abbrev pub withCount : In656Result → ℕ → In656Result
-withCount r count = record { refusal = r .refusal; outcome = r .outcome; detail = r .detail; contents = r .contents; place = r .place; written = r .written; number = r .number; count = count; lost = r .lost; filled = r .filled }
+withCount r count =
+    record {
+      refusal = r .refusal;
+      outcome = r .outcome;
+      detail = r .detail;
+      contents = r .contents;
+      place = r .place;
+      written = r .written;
+      number = r .number;
+      count = count;
+      lost = r .lost;
+      filled = r .filled;
+    }
 
 -- 1 where the call noted the line lost
 abbrev pub withLost : In656Result → Bool → In656Result
-withLost r noted = record { refusal = r .refusal; outcome = r .outcome; detail = r .detail; contents = r .contents; place = r .place; written = r .written; number = r .number; count = r .count; lost = cond noted 1 0; filled = r .filled }
+withLost r noted =
+    record {
+      refusal = r .refusal;
+      outcome = r .outcome;
+      detail = r .detail;
+      contents = r .contents;
+      place = r .place;
+      written = r .written;
+      number = r .number;
+      count = r .count;
+      lost = cond noted 1 0;
+      filled = r .filled;
+    }
 
 -- the record block was filled
 abbrev pub withRecord : In656Result → In656Result
-withRecord r = record { refusal = r .refusal; outcome = r .outcome; detail = r .detail; contents = r .contents; place = r .place; written = r .written; number = r .number; count = r .count; lost = r .lost; filled = 1 }
+withRecord r =
+    record {
+      refusal = r .refusal;
+      outcome = r .outcome;
+      detail = r .detail;
+      contents = r .contents;
+      place = r .place;
+      written = r .written;
+      number = r .number;
+      count = r .count;
+      lost = r .lost;
+      filled = 1;
+    }

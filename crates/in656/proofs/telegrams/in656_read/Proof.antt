@@ -24,7 +24,16 @@ refuse-requires-2 c κs = search needs
 
 returns-2 : tie.Need-returns-2
 unfolding readCall
-returns-2 c = rw (c .refuse2 .ensures, ← (c .before .before .before .before .byte-or .ensures), ← (c .before .before .before .is-line .ensures), not-false (c .before .before .before .is-line .result) (c .before .before .if1 .left), ne-eqb _ _ (c .before .if2 .taken))
+returns-2 c =
+    let byte-or = c .before .before .before .before .byte-or in
+    let is-line = c .before .before .before .is-line in
+    rw (
+      c .refuse2 .ensures,
+      ← (byte-or .ensures),
+      ← (is-line .ensures),
+      not-false (is-line .result) (c .before .before .if1 .left),
+      ne-eqb _ _ (c .before .if2 .taken),
+    )
 
 read-requires : tie.Need-read-requires
 read-requires c κs = search needs
@@ -40,7 +49,22 @@ same-length c = search needs
 
 returns-3 : tie.Need-returns-3
 unfolding readCall
-returns-3 c = rw (c .of-reading .ensures, c .before .before .before .fill .ensures, c .before .before .before .before .before .read .ensures, ← (c .before .before .before .before .before .before .before .before .before .byte-or .ensures), ← (c .before .before .before .before .before .before .before .before .is-line .ensures), not-false (c .before .before .before .before .before .before .before .before .is-line .result) (c .before .before .before .before .before .before .before .if1 .left), eq-eqb _ _ (c .before .before .before .before .before .before .if2 .left))
+returns-3 c =
+    let byte-or = c .before .before .before .before .before .before .before .before .before .byte-or in
+    let is-line = c .before .before .before .before .before .before .before .before .is-line in
+    let if1 = c .before .before .before .before .before .before .before .if1 in
+    let if2 = c .before .before .before .before .before .before .if2 in
+    let read = c .before .before .before .before .before .read in
+    let fill = c .before .before .before .fill in
+    rw (
+      c .of-reading .ensures,
+      fill .ensures,
+      read .ensures,
+      ← (byte-or .ensures),
+      ← (is-line .ensures),
+      not-false (is-line .result) (if1 .left),
+      eq-eqb _ _ (if2 .left),
+    )
 
 pub in656-read-spec : {M : Type 1} → statement M
 in656-read-spec =

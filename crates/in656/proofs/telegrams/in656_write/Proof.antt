@@ -27,7 +27,19 @@ refuse-requires-2 c κs = search needs
 
 returns-2 : tie.Need-returns-2
 unfolding writeCall
-returns-2 c = rw (c .refuse2 .ensures, ← (c .before .before .before .before .before .byte-or .ensures), ← (c .before .before .before .before .is-line .ensures), not-false (c .before .before .before .before .is-line .result) (c .before .before .before .if1 .left), ← (c .before .before .is-typed .ensures), not-true (c .before .before .is-typed .result) (c .before .if2 .taken))
+returns-2 c =
+    let byte-or = c .before .before .before .before .before .byte-or in
+    let is-line = c .before .before .before .before .is-line in
+    let if1 = c .before .before .before .if1 in
+    let is-typed = c .before .before .is-typed in
+    rw (
+      c .refuse2 .ensures,
+      ← (byte-or .ensures),
+      ← (is-line .ensures),
+      not-false (is-line .result) (if1 .left),
+      ← (is-typed .ensures),
+      not-true (is-typed .result) (c .before .if2 .taken),
+    )
 
 meaning-requires : tie.Need-meaning-requires
 meaning-requires c κs = search needs
@@ -46,7 +58,25 @@ same-length c = search needs
 
 returns-3 : tie.Need-returns-3
 unfolding writeCall
-returns-3 c = rw (← (c .before .before .before .before .before .before .before .before .before .before .before .byte-or .ensures), ← (c .before .before .before .before .before .before .before .before .before .before .is-line .ensures), not-false (c .before .before .before .before .before .before .before .before .before .before .is-line .result) (c .before .before .before .before .before .before .before .before .before .if1 .left), ← (c .before .before .before .before .before .before .before .before .is-typed .ensures), not-false (c .before .before .before .before .before .before .before .before .is-typed .result) (c .before .before .before .before .before .before .before .if2 .left), ← (c .before .before .before .before .before .before .meaning .ensures), ← (c .before .before .before .before .before .byte-or2 .ensures)) (written _ _ _ _ (c .of-writing .ensures) (c .before .before .before .write .ensures))
+returns-3 c =
+    let byte-or = c .before .before .before .before .before .before .before .before .before .before .before .byte-or in
+    let is-line = c .before .before .before .before .before .before .before .before .before .before .is-line in
+    let if1 = c .before .before .before .before .before .before .before .before .before .if1 in
+    let is-typed = c .before .before .before .before .before .before .before .before .is-typed in
+    let if2 = c .before .before .before .before .before .before .before .if2 in
+    let meaning = c .before .before .before .before .before .before .meaning in
+    let byte-or2 = c .before .before .before .before .before .byte-or2 in
+    let write = c .before .before .before .write in
+    rw (
+      ← (byte-or .ensures),
+      ← (is-line .ensures),
+      not-false (is-line .result) (if1 .left),
+      ← (is-typed .ensures),
+      not-false (is-typed .result) (if2 .left),
+      ← (meaning .ensures),
+      ← (byte-or2 .ensures),
+    )
+    (written _ _ _ _ (c .of-writing .ensures) (write .ensures))
 
 pub in656-write-spec : {M : Type 1} → statement M
 in656-write-spec =

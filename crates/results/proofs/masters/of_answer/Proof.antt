@@ -76,7 +76,10 @@ returns-2 : tie.Need-returns-2
 returns-2 c = rw (c .before .enum-told .given .1, c .say .ensures)
 
 returns-3 : tie.Need-returns-3
-returns-3 c = rw (c .before .before .before .before .before .answer2 .given .1, c .with-count .ensures, c .before .with-written .ensures, c .before .before .say2 .ensures, c .before .before .before .sending-detail .ensures)
+returns-3 c =
+    let answer2 = c .before .before .before .before .before .answer2 in
+    let sending-detail = c .before .before .before .sending-detail in
+    rw (answer2 .given .1, c .with-count .ensures, c .before .with-written .ensures, c .before .before .say2 .ensures, sending-detail .ensures)
 
 returns-4 : tie.Need-returns-4
 returns-4 c = rw (c .before .before .before .before .answer3 .given .1, c .with-count2 .ensures, c .before .with-record .ensures, c .before .before .say3 .ensures)

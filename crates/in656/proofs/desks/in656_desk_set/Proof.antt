@@ -1,0 +1,31 @@
+-- `in656_desk_set` meets its contract. Assumes nothing.
+use borrow.Author.Needs.{needs}
+use Rattle.in656.proofs.desks.in656_desk_set.Statement.{statement}
+use Rattle.in656.proofs.desks.in656_desk_set.Tie as tie
+
+load-requires : tie.Need-load-requires
+load-requires c κs = search needs
+
+meaning-requires : tie.Need-meaning-requires
+meaning-requires c κs = search needs
+
+set-requires : tie.Need-set-requires
+set-requires c κs = search needs
+
+close-requires : tie.Need-close-requires
+close-requires c κs = search needs
+
+same-length : tie.Need-same-length
+same-length c = search needs
+
+returns : tie.Need-returns
+returns c =
+    let load = c .before .before .before .before .before .before .load in
+    let meaning = c .before .before .before .before .before .meaning in
+    let set = c .before .before .before .before .set in
+    rw (c .before .before .close .ensures, set .ensures, meaning .ensures, load .ensures)
+
+pub in656-desk-set-spec : {M : Type 1} → statement M
+in656-desk-set-spec =
+    tie.close
+    (tie.spec load-requires meaning-requires set-requires close-requires same-length returns)

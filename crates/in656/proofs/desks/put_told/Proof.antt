@@ -1,0 +1,25 @@
+-- `put_told` meets its contract. Assumes nothing.
+use Rattle.in656.proofs.Blocks.{other-heard}
+use denote.Ref.{now}
+use borrow.Author.Needs.{needs}
+use Rattle.in656.proofs.desks.put_told.Statement.{statement}
+use Rattle.in656.proofs.desks.put_told.Tie as tie
+
+enum-known-answer : tie.Need-enum-known-answer
+enum-known-answer c = search needs
+
+put-panel-requires : tie.Need-put-panel-requires
+put-panel-requires c κs = search needs
+
+same-length : tie.Need-same-length
+same-length c = search needs
+
+returns : tie.Need-returns
+returns c = rw (c .before .before .before .before .before .answer .given .1) (c .before .before .put-panel .ensures)
+
+returns-2 : tie.Need-returns-2
+returns-2 c = other-heard (c .before .before .args .answer) (now (c .before .before .args .block)) (c .match .keys2)
+
+pub put-told-spec : {M : Type 1} → statement M
+put-told-spec =
+    tie.close (tie.spec enum-known-answer put-panel-requires same-length returns returns-2)

@@ -1,0 +1,23 @@
+-- `in656_gatherer_hit` meets its contract. Assumes nothing.
+use borrow.Author.Needs.{needs}
+use Rattle.in656.proofs.gatherers.in656_gatherer_hit.Statement.{statement}
+use Rattle.in656.proofs.gatherers.in656_gatherer_hit.Tie as tie
+
+load-requires : tie.Need-load-requires
+load-requires c κs = search needs
+
+gather-requires : tie.Need-gather-requires
+gather-requires c κs = search needs
+
+close-requires : tie.Need-close-requires
+close-requires c κs = search needs
+
+same-length : tie.Need-same-length
+same-length c = search needs
+
+returns : tie.Need-returns
+returns c = rw (c .before .before .close .ensures, c .before .before .before .before .gather .ensures, c .before .before .before .before .before .load .ensures)
+
+pub in656-gatherer-hit-spec : {M : Type 1} → statement M
+in656-gatherer-hit-spec =
+    tie.close (tie.spec load-requires gather-requires close-requires same-length returns)
