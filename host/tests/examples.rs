@@ -130,6 +130,17 @@ fn read_reads_one_telegram_as_c_and_as_cpp() {
     }
 }
 
+#[test]
+fn exchange_fetches_the_train_data() {
+    let Some(exchange) = build(&C99, "exchange", "exchange.c", false) else {
+        return;
+    };
+    let output = run(&exchange, &[], b"");
+    let last = "length 125, braking 90, speed 120, direction 88; sending count 1\n";
+    assert!(said(&output).ends_with(last), "{}", said(&output));
+    assert!(output.status.success());
+}
+
 /// The README and the manual show examples/read.c as it is.
 #[test]
 fn the_readme_and_the_manual_have_the_example() {
