@@ -73,7 +73,7 @@ typedef struct in656_result {
   uint64_t written;  /* how many bytes of the output are written, or how many bytes a telegram has */
   uint32_t number;   /* the telegram's number, 0 or 1 */
   uint32_t count;    /* the master's sending count, 1 to 3 */
-  uint32_t lost;     /* 1 where this call noted the line lost */
+  uint32_t lost;     /* 1 where this call of the desk noted the line lost */
   uint32_t record;   /* 1 where the record block was filled */
 } in656_result;
 
@@ -91,9 +91,9 @@ in656_result in656_read(uint32_t line, const uint8_t *frame, size_t frame_length
 in656_result in656_write(uint32_t line, const uint8_t *record, size_t record_length, uint32_t number, uint8_t *out, size_t out_length);
 
 /*
- * Cutting a stream byte by byte. start fills a state (14 where it has another length). A heard byte, or a hit
+ * Cutting a stream byte by byte. start fills a state. A heard byte, or a hit
  * (a parity or framing error), gives outcome 1 where it ends a telegram: written bytes of it lie in the state from
- * IN656_GATHERER_TELEGRAM_AT on, until the next byte. Refusals: 15.
+ * IN656_GATHERER_TELEGRAM_AT on, until the next byte. Refusals: 15 (a state of another length, or out of its ranges).
  */
 #define IN656_GATHERER_TELEGRAM_AT 1u
 in656_result in656_gatherer_start(uint8_t *state, size_t state_length);

@@ -1,7 +1,7 @@
 // The desk on a state of bytes.
 ghost use mathlib.Core.Path.{_≡_};
 ghost use Rattle.replying.specs.Replying.{originOf};
-ghost use Rattle.desk.specs.Answers.{outcomeOf, toldOf};
+ghost use Rattle.desk.specs.Answers.{doneOf, toldOf};
 ghost use Rattle.deskcalls.specs.Desks.{stepped, deskStart, deskTick, deskQueue, deskSet, deskKey, panelBlock, toldBlock, heardParts, deskHear};
 use blocks::record::RECORD_LENGTH;
 use blocks::record::put_record;
@@ -22,7 +22,7 @@ use states::desks::save;
 
 // The state behind a call is saved where it is not refused.
 fn close(step: Step, state: &mut [u8]) -> In656Result
-    ensures { λ r. ⌜ (r, now (state .exit)) ≡ stepped (step .desk, outcomeOf (step .answer)) (now (state .entry)) ⌝ }
+    ensures { λ r. ⌜ (r, now (state .exit)) ≡ stepped (step .desk, doneOf (step .answer)) (now (state .entry)) ⌝ }
 {
     let answer = step.answer;
     let r = of_outcome(answer);

@@ -13,9 +13,9 @@ use Rattle.results.specs.Result.{zeros, refusing}
 use Rattle.results.specs.Telegrams.{cutResult}
 use Rattle.results.specs.Result.{Call}
 
--- 14 where the state has another length
+-- 15 where the state has another length
 unfoldable pub gathererStart : List ℕ → Call
-gathererStart b = cond (eqb (length b) gathererLength) (zeros, saveOf atStart b) (refusing (no 14 0), b)
+gathererStart b = cond (eqb (length b) gathererLength) (zeros, saveOf atStart b) (refusing (no 15 0), b)
 
 -- the result, and the bytes of the state behind the step, as they were where it is refused
 unfoldable pub gathered : Gatherer × Cut → List ℕ → Call

@@ -19,7 +19,7 @@ pub extern "C" fn in656_gatherer_start(state: &mut [u8]) -> In656Result
     ensures { λ r. ⌜ (r, now (state .exit)) ≡ gathererStart (now (state .entry)) ⌝ }
 {
     if state.len() != GATHERER_LENGTH {
-        return refuse(Refusal::NoRoom);
+        return refuse(Refusal::State);
     }
     save(Gatherer::start(), state);
     done()

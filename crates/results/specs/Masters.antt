@@ -2,12 +2,8 @@
 use Prim.Native.Nat.{ℕ}
 use Rattle.reading.specs.Answers.{Answer, accepted}
 use Rattle.reading.specs.Answers as a
-use Rattle.master.specs.Answers.{Why, free, runOut, otherNumber, Told, nothing, sent, answered, otherKind, givenUp, ignored}
+use Rattle.master.specs.Answers.{Which, offered, again, poll, Ground, silence, rejected, Why, free, runOut, otherNumber, Told, nothing, sent, answered, otherKind, givenUp, ignored}
 use Rattle.master.specs.Answers as m
-use Rattle.master.specs.declared.answers.Sending.{Sending}
-use Rattle.master.specs.declared.answers.Sending.the-variants.{Offered, Again, Poll}
-use Rattle.master.specs.declared.answers.Cause.{Cause}
-use Rattle.master.specs.declared.answers.Cause.the-variants.{Silence, Rejected}
 use Rattle.results.specs.declared.result.In656Result.{In656Result}
 use Rattle.results.specs.Result.{saying, refusing, withContents, withWritten, withCount, withRecord}
 
@@ -31,15 +27,15 @@ abbrev pub masterIgnored : ℕ
 masterIgnored = 6
 
 -- detail of a sending
-abbrev pub sendingDetail : Sending → ℕ
-sendingDetail Offered = 1
-sendingDetail Again = 2
-sendingDetail Poll = 3
+abbrev pub sendingDetail : Which → ℕ
+sendingDetail offered = 1
+sendingDetail again = 2
+sendingDetail poll = 3
 
 -- detail of a giving up
-abbrev pub causeDetail : Cause → ℕ
-causeDetail Silence = 1
-causeDetail Rejected = 2
+abbrev pub causeDetail : Ground → ℕ
+causeDetail silence = 1
+causeDetail rejected = 2
 
 -- detail of an ignored frame
 abbrev pub ignoredFree : ℕ

@@ -2,7 +2,7 @@
 ghost use mathlib.Core.Path.{_≡_};
 ghost use Rattle.records.specs.Refusals.{refusalOf};
 ghost use Rattle.replying.specs.Replying.{originOf};
-ghost use Rattle.desk.specs.Answers.{outcomeOf, toldOf};
+ghost use Rattle.desk.specs.Answers.{doneOf, toldOf};
 ghost use Rattle.results.specs.Desks.{doneResult, handledResult, heardResult};
 ghost use Rattle.results.specs.Result.{saying, withContents, withWritten, withLost};
 use crate::result::In656Result;
@@ -41,7 +41,7 @@ pub const FROM_NOTHING: u32 = 7;
 
 // A call that hears nothing.
 pub fn of_outcome(answer: Outcome) -> In656Result
-    ensures { λ r. ⌜ r ≡ doneResult (outcomeOf answer) ⌝ }
+    ensures { λ r. ⌜ r ≡ doneResult (doneOf answer) ⌝ }
 {
     match answer {
         Outcome::Done => say(DONE, 0),

@@ -1,7 +1,7 @@
 // The results of the master's calls.
 ghost use mathlib.Core.Path.{_≡_};
 ghost use Rattle.reading.specs.Answers.{answerOf};
-ghost use Rattle.master.specs.Answers.{whyOf, toldOf};
+ghost use Rattle.master.specs.Answers.{whichOf, groundOf, whyOf, toldOf};
 ghost use Rattle.results.specs.Masters.{sendingDetail, causeDetail, ignoredResult, otherResult, toldResult};
 use crate::result::In656Result;
 use crate::result::refuse;
@@ -36,7 +36,7 @@ pub const IGNORED_OTHER_NUMBER: u32 = 4;
 
 // Detail of a sending.
 fn sending_detail(sending: Sending) -> u32
-    ensures { λ r. ⌜ r ≡ sendingDetail sending ⌝ }
+    ensures { λ r. ⌜ r ≡ sendingDetail (whichOf sending) ⌝ }
 {
     match sending {
         Sending::Offered => 1,
@@ -47,7 +47,7 @@ fn sending_detail(sending: Sending) -> u32
 
 // Detail of a giving up.
 fn cause_detail(cause: Cause) -> u32
-    ensures { λ r. ⌜ r ≡ causeDetail cause ⌝ }
+    ensures { λ r. ⌜ r ≡ causeDetail (groundOf cause) ⌝ }
 {
     match cause {
         Cause::Silence => 1,

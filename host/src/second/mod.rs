@@ -157,7 +157,7 @@ impl Face for Second {
         match call {
             Call::Read(line, frame) => reading(line, frame, record),
             Call::Write(line, block, number) => writing(line, block, number, out),
-            Call::GathererStart if state.len() != blocks::GATHERER => refused(14, 0),
+            Call::GathererStart if state.len() != blocks::GATHERER => refused(15, 0),
             Call::GathererStart => {
                 state.fill(0);
                 Answer::default()
