@@ -85,7 +85,7 @@ fn streams_cut() {
     let run = |library: &dyn Face| compare("streams cut", GATE, library, &Second);
     if let Some(tally) = part("streams cut", run) {
         assert_eq!(sum(&tally, "gatherer_start"), 100_000);
-        refused(&tally, "gatherer_start", [14]);
+        refused(&tally, "gatherer_start", [15]);
         for call in ["gatherer_byte", "next"] {
             reached(&tally, call, 0, [0]);
             reached(&tally, call, 1, [0]);
