@@ -1,0 +1,231 @@
+//! docs/TRACE.md: each rule of docs/RULES.md has its row, each name in it is in the tree, each
+//! public function serves a rule, and each edit that must fail says what it breaks.
+
+mod tracing;
+
+use std::collections::{BTreeMap, BTreeSet};
+use std::io::Write;
+use tracing::edits::{first_line, FORM};
+use tracing::pages::{promised, promises, rows, rules, traced, Row, COLUMNS};
+use tracing::tree::{declared, function, in_input, Tree};
+use tracing::{none, repository, text};
+
+const RULES: &str = "docs/RULES.md";
+const TRACE: &str = "docs/TRACE.md";
+const PROMISES: &str = "docs/PROMISES.md";
+
+fn trace() -> Vec<Row> {
+    rows(&text(TRACE)).unwrap_or_else(|fault| panic!("{fault}"))
+}
+
+/// The line of each number; with a fault for each that stands twice.
+fn once(
+    page: &str,
+    numbers: Vec<(String, usize)>,
+    faults: &mut Vec<String>,
+) -> BTreeMap<String, usize> {
+    let mut found = BTreeMap::new();
+    for (id, line) in numbers {
+        if let Some(before) = found.insert(id.clone(), line) {
+            faults.push(format!(
+                "{page}:{line}: {id} stands in line {before} too: keep one"
+            ));
+        }
+    }
+    found
+}
+
+#[test]
+fn each_rule_has_a_row() {
+    let mut faults = Vec::new();
+    let rules = once(RULES, rules(&text(RULES)), &mut faults);
+    let rows = trace();
+    let traced = rows
+        .iter()
+        .map(|row| (row.rule.clone(), row.line))
+        .collect();
+    let traced = once(TRACE, traced, &mut faults);
+    for (id, line) in rules.iter().filter(|(id, _)| !traced.contains_key(*id)) {
+        faults.push(format!(
+            "{RULES}:{line}: {id} has no row in {TRACE}: write one"
+        ));
+    }
+    for (id, line) in traced.iter().filter(|(id, _)| !rules.contains_key(*id)) {
+        faults.push(format!(
+            "{TRACE}:{line}: there is no rule {id} in {RULES}: write it, or take the row out"
+        ));
+    }
+    for row in rows
+        .iter()
+        .filter(|row| row.columns[..3].iter().all(Vec::is_empty))
+    {
+        faults.push(format!(
+            "{TRACE}:{}: {} has no place: name what states, proves or shows it",
+            row.line, row.rule
+        ));
+    }
+    none(&faults);
+    let count = |i: usize| rows.iter().filter(|row| !row.columns[i].is_empty()).count();
+    let counts: Vec<_> = COLUMNS
+        .iter()
+        .enumerate()
+        .map(|(i, c)| format!("{c} {}", count(i)))
+        .collect();
+    let _ = writeln!(
+        std::io::stderr(),
+        "{} rules: {}",
+        rows.len(),
+        counts.join(", ")
+    );
+}
+
+#[test]
+fn each_name_is_in_the_tree() {
+    let tree = Tree::read();
+    let edits: BTreeSet<_> = tree
+        .edits
+        .iter()
+        .map(|e| format!("{} {}", e.krate, e.name))
+        .collect();
+    let mut faults = Vec::new();
+    for row in trace() {
+        for (i, column) in row.columns.iter().enumerate() {
+            let known = |name: &&String| match i {
+                0 => tree.declarations.contains(*name),
+                1 => tree.declarations.contains(*name) || tree.functions.contains_key(*name),
+                2 => tree.shows(name),
+                _ => edits.contains(*name),
+            };
+            for name in column.iter().filter(|name| !known(name)) {
+                let (line, rule, column) = (row.line, &row.rule, COLUMNS[i]);
+                faults.push(format!("{TRACE}:{line}: {rule}, {column}: `{name}` is not in the tree: correct the crate or the name"));
+            }
+        }
+    }
+    none(&faults);
+}
+
+#[test]
+fn each_public_function_has_a_rule() {
+    let tree = Tree::read();
+    let traced: BTreeSet<_> = trace()
+        .into_iter()
+        .flat_map(|row| row.columns[1].clone())
+        .collect();
+    let page = text(PROMISES);
+    let promises = promises(&page, &tree);
+    let promised: BTreeSet<_> = promises.iter().flat_map(|p| p.functions.clone()).collect();
+    let mut faults = Vec::new();
+    for (name, function) in tree.functions.iter().filter(|(_, f)| f.public) {
+        if !traced.contains(name) {
+            faults.push(format!(
+                "{}: no rule names `{name}`: name it in {TRACE}, 'proved by'",
+                function.at
+            ));
+        }
+        if !promised.contains(name) {
+            faults.push(format!(
+                "{}: `{name}` has no row: write one in {PROMISES}",
+                function.at
+            ));
+        }
+    }
+    for promise in promises {
+        for name in promise.unknown {
+            faults.push(format!(
+                "{PROMISES}:{}: `{name}` is no function of this crate: correct it",
+                promise.line
+            ));
+        }
+    }
+    none(&faults);
+}
+
+#[test]
+fn each_edit_says_what_it_breaks() {
+    let tree = Tree::read();
+    let rules: BTreeSet<_> = rules(&text(RULES)).into_iter().map(|(id, _)| id).collect();
+    let mut faults = Vec::new();
+    for path in &tree.unreadable {
+        faults.push(format!("{path}:1: write {FORM}"));
+    }
+    for edit in &tree.edits {
+        for name in &edit.breaks {
+            let whole = format!("{} {name}", edit.krate);
+            let public = tree.functions.get(&whole).is_some_and(|f| f.public);
+            if !public && !tree.declarations.contains(&whole) {
+                faults.push(format!("{}:1: `{name}` is no public function, definition or theorem of {}: name one that it breaks", edit.path, edit.krate));
+            }
+        }
+        for rule in edit.rules.iter().filter(|rule| !rules.contains(*rule)) {
+            faults.push(format!(
+                "{}:1: there is no rule {rule} in {RULES}: name one that it breaks",
+                edit.path
+            ));
+        }
+    }
+    none(&faults);
+}
+
+/// The last columns of both pages are made from the edits' first lines. `WRITE=1` writes them.
+#[test]
+fn the_columns_of_edits_are_made_from_the_edits() {
+    let tree = Tree::read();
+    let mut faults = Vec::new();
+    for (path, made) in [
+        (TRACE, traced(&text(TRACE), &tree)),
+        (PROMISES, promised(&text(PROMISES), &tree)),
+    ] {
+        if std::env::var_os("WRITE").is_some() {
+            std::fs::write(repository(path), &made).expect(path);
+        }
+        for (i, (is, should)) in text(path).lines().zip(made.lines()).enumerate() {
+            if is != should {
+                let cell = should
+                    .trim_end_matches(" |")
+                    .rsplit(" | ")
+                    .next()
+                    .unwrap_or(should);
+                faults.push(format!("{path}:{}: the edits here are {cell}: WRITE=1 cargo test --test trace columns writes them", i + 1));
+            }
+        }
+    }
+    none(&faults);
+}
+
+/// What the other tests rest on finds what is wrong.
+#[test]
+fn wrong_lines_are_seen() {
+    assert!(first_line("# frame::frame_check, R4, B3: the count is not looked at").is_some());
+    for line in [
+        "# the count is not looked at",
+        "# frame::frame_check: the count is not looked at",
+        "# R4: the count is not looked at",
+        "# frame::frame_check, R4, the count: it is not looked at",
+        "# frame::frame_check, R4:",
+        "frame::frame_check, R4: the count is not looked at",
+    ] {
+        assert!(first_line(line).is_none(), "{line}");
+    }
+    assert_eq!(declared("abbrev pub lf : Nat"), Some("lf"));
+    assert_eq!(
+        declared("  pub record Over (x : T) : Type 0 where"),
+        Some("Over")
+    );
+    assert_eq!(declared("-- lf : Nat"), None);
+    assert_eq!(
+        function("    pub fn start(line: u8) -> Step"),
+        Some(("start", true))
+    );
+    assert_eq!(
+        function("fn put_end(out: &mut [u8])"),
+        Some(("put_end", false))
+    );
+    assert_eq!(function("// the fn word(s)"), None);
+    let input = "a|R|3|x|y\n# figure 4.2, a fault\n# figure 4.20, none\n";
+    assert!(in_input(input, "a") && in_input(input, "figure 4.2"));
+    assert!(!in_input(input, "figure 4") && !in_input(input, "b") && !in_input(input, "R"));
+    assert!(rows("| R1 | `a B.c` | - | - | x |\n").is_err());
+    assert!(rows("| R1 | `a B.c`, `a B.d` | - | - | - |\n")
+        .is_ok_and(|rows| rows[0].columns[0].len() == 2));
+}

@@ -1,0 +1,185 @@
+//! The pages: the rules, the trace, and the promises.
+
+use super::edits::Edit;
+use super::tree::Tree;
+use std::collections::BTreeSet;
+
+/// A rule's number: a letter and digits.
+pub fn is_rule(word: &str) -> bool {
+    let mut letters = word.chars();
+    let first = letters.next().is_some_and(|c| c.is_ascii_uppercase());
+    first && word.len() > 1 && letters.all(|c| c.is_ascii_digit())
+}
+
+/// The rules of a page with their lines: `- **R1** ..` in a list, `| R1 | ..` in a table.
+pub fn rules(page: &str) -> Vec<(String, usize)> {
+    let id = |line: &str| {
+        let list = line.strip_prefix("- **").and_then(|l| l.split_once("** "));
+        let table = line.strip_prefix("| ").and_then(|l| l.split_once(" |"));
+        let id = list.or(table)?.0;
+        is_rule(id).then(|| id.to_string())
+    };
+    let lines = page.lines().enumerate();
+    lines
+        .filter_map(|(i, line)| Some((id(line)?, i + 1)))
+        .collect()
+}
+
+/// The cells of a table's row.
+fn cells(line: &str) -> Vec<&str> {
+    let inside = line.strip_prefix("| ").and_then(|l| l.strip_suffix(" |"));
+    inside.map_or(Vec::new(), |l| l.split(" | ").collect())
+}
+
+/// The names in code of a cell.
+fn names(cell: &str) -> Vec<String> {
+    cell.split('`')
+        .skip(1)
+        .step_by(2)
+        .map(String::from)
+        .collect()
+}
+
+/// A row of the trace: what states, proves and shows its rule, and what must fail.
+pub struct Row {
+    pub rule: String,
+    pub line: usize,
+    pub columns: Vec<Vec<String>>,
+}
+
+pub const COLUMNS: [&str; 4] = ["stated by", "proved by", "shown by", "must fail"];
+
+/// The rows of the trace; or what is wrong with one.
+pub fn rows(page: &str) -> Result<Vec<Row>, String> {
+    let row = |(rule, line): (String, usize)| {
+        let cells = cells(page.lines().nth(line - 1).unwrap_or(""));
+        let read = |cell: &&str| Edit::cell(names(cell).into_iter()) == **cell;
+        if cells.len() != 5 || !cells[1..].iter().all(|cell| read(cell)) {
+            return Err(format!("docs/TRACE.md:{line}: write five cells, each of names in code with a comma between, or -"));
+        }
+        let columns = cells[1..].iter().map(|cell| names(cell)).collect();
+        Ok(Row {
+            rule,
+            line,
+            columns,
+        })
+    };
+    rules(page).into_iter().map(row).collect()
+}
+
+/// A row of the promises: the functions that it speaks of, as the trace names them.
+pub struct Promise {
+    pub line: usize,
+    /// The names of its first cell that no function has.
+    pub unknown: Vec<String>,
+    pub functions: Vec<String>,
+}
+
+/// The functions of a crate that a name of the page means: `module::name`, or `Type::name`.
+fn meant(tree: &Tree, krate: &str, name: &str) -> Vec<String> {
+    let whole = format!("{krate} {name}");
+    let end = format!("::{name}");
+    let front = format!("{krate} ");
+    let is = |f: &&String| **f == whole || (f.starts_with(&front) && f.ends_with(&end));
+    tree.functions.keys().filter(is).cloned().collect()
+}
+
+/// The rows below a crate's heading. A name without `::` is in the module of the one before it.
+pub fn promises(page: &str, tree: &Tree) -> Vec<Promise> {
+    let mut krate = String::new();
+    let mut found = Vec::new();
+    for (i, line) in page.lines().enumerate() {
+        if let Some(heading) = line.strip_prefix("## ") {
+            krate = if tree.crates.contains(heading) {
+                heading.into()
+            } else {
+                String::new()
+            };
+        }
+        if krate.is_empty() || !line.starts_with("| `") {
+            continue;
+        }
+        let mut module = String::new();
+        let mut promise = Promise {
+            line: i + 1,
+            unknown: Vec::new(),
+            functions: Vec::new(),
+        };
+        for name in names(cells(line).first().unwrap_or(&"")) {
+            let name = if name.contains("::") {
+                name
+            } else {
+                format!("{module}::{name}")
+            };
+            module = name.rsplit_once("::").map_or("", |(front, _)| front).into();
+            let functions = meant(tree, &krate, &name);
+            if functions.is_empty() {
+                promise.unknown.push(name);
+            }
+            promise.functions.extend(functions);
+        }
+        found.push(promise);
+    }
+    found
+}
+
+/// A row with another last cell.
+fn with_last(line: &str, cell: &str) -> String {
+    let inside = line.strip_suffix(" |").and_then(|l| l.rsplit_once(" | "));
+    inside.map_or(line.into(), |(front, _)| format!("{front} | {cell} |"))
+}
+
+/// The trace with its last column made from the edits.
+pub fn traced(page: &str, tree: &Tree) -> String {
+    let made = |line: &str| {
+        let rule = cells(line).first().map(|id| id.to_string());
+        let Some(rule) = rule.filter(|id| is_rule(id)) else {
+            return line.to_string();
+        };
+        let breaking = tree.edits.iter().filter(|edit| edit.rules.contains(&rule));
+        with_last(
+            line,
+            &Edit::cell(breaking.map(|e| format!("{} {}", e.krate, e.name))),
+        )
+    };
+    page.lines().map(|line| made(line) + "\n").collect()
+}
+
+const CLOSING: &str = "Edits that break a definition or a theorem and no function:";
+
+/// The edits that break no function, by crate.
+fn closing(tree: &Tree) -> String {
+    let others: Vec<_> = tree
+        .edits
+        .iter()
+        .filter(|e| !e.breaks.iter().any(|b| b.contains("::")))
+        .collect();
+    let crates: BTreeSet<_> = others.iter().map(|edit| &edit.krate).collect();
+    let of = |krate: &&String| {
+        let names = others
+            .iter()
+            .filter(|e| e.krate == **krate)
+            .map(|e| e.name.clone());
+        format!(" in `crates/{krate}/must-fail` {}", Edit::cell(names))
+    };
+    let parts: Vec<_> = crates.iter().map(of).collect();
+    format!("{CLOSING}{}.", parts.join(";"))
+}
+
+/// The promises with their last column, and the closing line, made from the edits.
+pub fn promised(page: &str, tree: &Tree) -> String {
+    let mut lines: Vec<String> = page.lines().map(String::from).collect();
+    for promise in promises(page, tree) {
+        let broken = |edit: &&Edit| {
+            let mut breaks = edit.breaks.iter().map(|b| format!("{} {b}", edit.krate));
+            breaks.any(|b| promise.functions.contains(&b))
+        };
+        let cell = Edit::cell(tree.edits.iter().filter(broken).map(|e| e.name.clone()));
+        let line = &mut lines[promise.line - 1];
+        *line = with_last(line, &cell);
+    }
+    for line in lines.iter_mut().filter(|line| line.starts_with(CLOSING)) {
+        *line = closing(tree);
+    }
+    lines.join("\n") + "\n"
+}
