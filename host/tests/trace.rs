@@ -6,8 +6,8 @@ mod tracing;
 use std::collections::{BTreeMap, BTreeSet};
 use std::io::Write;
 use tracing::edits::{first_line, FORM};
-use tracing::pages::{promised, promises, rows, rules, traced, Row, COLUMNS};
-use tracing::tree::{declared, function, in_input, Tree};
+use tracing::pages::{cited, promised, promises, rows, rules, traced, Row, COLUMNS};
+use tracing::tree::{declared, function, in_input, sources, Tree};
 use tracing::{none, repository, text};
 
 const RULES: &str = "docs/RULES.md";
@@ -193,6 +193,26 @@ fn the_columns_of_edits_are_made_from_the_edits() {
     none(&faults);
 }
 
+#[test]
+fn each_cited_rule_is_a_rule() {
+    let rules: BTreeSet<_> = rules(&text(RULES)).into_iter().map(|(id, _)| id).collect();
+    let mut faults = Vec::new();
+    for (path, page) in sources() {
+        for (i, line) in page.lines().enumerate() {
+            for rule in cited(line)
+                .into_iter()
+                .filter(|rule| !rules.contains(*rule))
+            {
+                faults.push(format!(
+                    "{path}:{}: there is no rule {rule} in {RULES}: cite one",
+                    i + 1
+                ));
+            }
+        }
+    }
+    none(&faults);
+}
+
 /// What the other tests rest on finds what is wrong.
 #[test]
 fn wrong_lines_are_seen() {
@@ -225,6 +245,8 @@ fn wrong_lines_are_seen() {
     let input = "a|R|3|x|y\n# figure 4.2, a fault\n# figure 4.20, none\n";
     assert!(in_input(input, "a") && in_input(input, "figure 4.2"));
     assert!(!in_input(input, "figure 4") && !in_input(input, "b") && !in_input(input, "R"));
+    let line = "-- A record (rules R1, R4 to R6 and W2; 001 4.4). T1 restarts.";
+    assert_eq!(cited(line), ["R1", "R4", "R6", "W2"]);
     assert!(rows("| R1 | `a B.c` | - | - | x |\n").is_err());
     assert!(rows("| R1 | `a B.c`, `a B.d` | - | - | - |\n")
         .is_ok_and(|rows| rows[0].columns[0].len() == 2));

@@ -25,6 +25,21 @@ pub fn rules(page: &str) -> Vec<(String, usize)> {
         .collect()
 }
 
+/// The rules that a line cites: `rule R1`, or `rules R1, R4 to R6 and W2`.
+pub fn cited(line: &str) -> Vec<&str> {
+    let mut citing = false;
+    let mut found = Vec::new();
+    for word in line.split_whitespace() {
+        let word = word.trim_matches(|c: char| !c.is_alphanumeric());
+        if citing && is_rule(word) {
+            found.push(word);
+        } else if !(citing && ["to", "and"].contains(&word)) {
+            citing = ["rule", "rules"].contains(&word);
+        }
+    }
+    found
+}
+
 /// The cells of a table's row.
 fn cells(line: &str) -> Vec<&str> {
     let inside = line.strip_prefix("| ").and_then(|l| l.strip_suffix(" |"));

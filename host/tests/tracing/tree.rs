@@ -60,6 +60,25 @@ fn read(path: &Path) -> String {
     fs::read_to_string(path).unwrap_or_else(|e| panic!("{}: {e}", path.display()))
 }
 
+/// The source files of crates and host, by their paths in the repository, with their texts.
+pub fn sources() -> Vec<(String, String)> {
+    let root = repository("");
+    let kinds = [
+        ("crates", "rt"),
+        ("crates", "antt"),
+        ("host/src", "rs"),
+        ("host/tests", "rs"),
+    ];
+    let found = kinds
+        .iter()
+        .flat_map(|(folder, kind)| files(&root.join(folder), kind));
+    let named = |path: PathBuf| {
+        let below = path.strip_prefix(&root).expect("a path below");
+        (below.display().to_string(), read(&path))
+    };
+    found.map(named).collect()
+}
+
 /// The last word of a path, without the extension.
 fn stem(path: &Path) -> String {
     path.file_stem()
