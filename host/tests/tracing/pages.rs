@@ -69,7 +69,7 @@ pub fn rows(page: &str) -> Result<Vec<Row>, String> {
     let row = |(rule, line): (String, usize)| {
         let cells = cells(page.lines().nth(line - 1).unwrap_or(""));
         let read = |cell: &&str| Edit::cell(names(cell).into_iter()) == **cell;
-        if cells.len() != 5 || !cells[1..].iter().all(|cell| read(cell)) {
+        if cells.len() != 5 || !cells[1..].iter().all(read) {
             return Err(format!("docs/TRACE.md:{line}: write five cells, each of names in code with a comma between, or -"));
         }
         let columns = cells[1..].iter().map(|cell| names(cell)).collect();
