@@ -5,7 +5,7 @@ use Prim.Native.Nat.{ℕ, _≤_}
 use native.Mathlib.Omega.{arith}
 use lib.ListN.{length}
 use Rattle.captures.specs.declared.lister.Wants.the-variants.{Read, End}
-use Rattle.captures.specs.Pieces.{listingOf}
+use Rattle.captures.specs.Captures.{listingOf}
 use Rattle.captures.specs.Runs.{Stand, Given, begun, bufferOf, stepOf, nextStand, MayTurn, standAfter, MayRun, WholeListing, EachTurn, RoomToRead}
 use Rattle.captures.proofs.Turning.{wanted}
 use Rattle.captures.proofs.Stands.{Holds, opening, listing, over, Made, Taken, wantedIn, made}

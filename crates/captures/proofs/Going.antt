@@ -10,15 +10,15 @@ use Rattle.characters.specs.Marks.{unfinished}
 use Rattle.reading.specs.Answers.{written}
 use Rattle.text.specs.Putting.{placed}
 use Rattle.listings.specs.Lines.{lineRoom}
-use Rattle.captures.specs.declared.pieces.Listed.{Listed}
+use Rattle.pieces.specs.declared.pieces.Listed.{Listed}
 use Rattle.captures.specs.declared.lister.Lister.{Lister}
 use Rattle.captures.specs.declared.lister.Wants.the-variants.{Read, Again, End}
-use Rattle.captures.specs.Pieces.{spansOf, wrapped, linesIn, linesOf, keptFrom, tailOf, tailPut}
-use Rattle.captures.specs.Whole.{linesLeft}
+use Rattle.pieces.specs.Pieces.{spansOf, wrapped, linesIn, linesOf, keptFrom, tailOf, tailPut}
+use Rattle.pieces.specs.Whole.{linesLeft}
 use Rattle.captures.specs.Lister.{Turned, again, behind, carried, carriedOn}
 use Rattle.captures.specs.Runs.{frontOf}
-use Rattle.captures.proofs.Filled.{Fills, part-fills}
-use Rattle.captures.proofs.Whole.{in-two}
+use Rattle.pieces.proofs.Filled.{Fills, part-fills}
+use Rattle.pieces.proofs.Whole.{in-two}
 
 -- what is written, and the lines left of the bytes held and any bytes behind them, are the lines of all bytes behind the digit
 abbrev pub Going : ℕ → ℕ → ℕ → ℕ → List ℕ → List ℕ → List ℕ → Type 0

@@ -1,10 +1,3 @@
-pub mod Tails
-pub mod Spans
-pub mod Listings
-pub mod Shifts
-pub mod Whole
-pub mod Runs
-pub mod Filled
 pub mod Sample
 pub mod Turning
 pub mod Going

@@ -19,12 +19,13 @@ use Rattle.reading.specs.Frame.{countText, summedOf, fieldOf, frameChecks}
 use Rattle.reading.specs.Field.{outside, wrongLetter, badValue, valuesIn, misshapen, fieldChecks}
 use Rattle.reading.specs.Reading.{recordIn, checks, readingOf}
 use Rattle.turns.specs.Turns.{turnOf}
-use Rattle.cutting.specs.Search.{cutFrom, spanOf}
+use Rattle.searching.specs.Search.{cutFrom, spanOf}
 use Rattle.text.specs.Numbers.{countOn, digitCount, decimalText}
 use Rattle.words.specs.Items.{refusalText}
 use Rattle.listings.specs.Lines.{lineText}
 use Rattle.captures.specs.Sample.{PaperListing, NoInput, OtherByte, DigitAlone}
-use Rattle.captures.specs.Pieces.{spansOn, spansOf, lineAt, linesIn, linesOf, lineNamed, listingOf}
+use Rattle.pieces.specs.Pieces.{spansOn, spansOf, lineAt, linesIn, linesOf}
+use Rattle.captures.specs.Captures.{lineNamed, listingOf}
 
 pub paper-listing : PaperListing
 unfolding numeralOn numberOn inSet total checksumOf checkText forms onLine lookIn formOf typeRow dataType slotsIn countOf slotsOf widthIn widthOf

@@ -20,10 +20,11 @@ use Rattle.listings.specs.Lines.{lineRoom}
 use Rattle.captures.specs.declared.lister.Lister.{Lister}
 use Rattle.captures.specs.declared.lister.Wants.{Wants}
 use Rattle.captures.specs.declared.lister.Wants.the-variants.{Read, Again, End}
-use Rattle.captures.specs.Pieces.{linesOf, lineNamed, badLine, listingOf}
+use Rattle.pieces.specs.Pieces.{linesOf}
+use Rattle.captures.specs.Captures.{lineNamed, badLine, listingOf}
 use Rattle.captures.specs.Lister.{Turned, atFirst, placeFits, listFault, lineFor, ended, unnamed, beside, carriedOn, listingOn, readingOn, wantedOf}
 use Rattle.captures.specs.Runs.{Stand, Given, begun, bufferOf, frontOf, standBehind, MayTurn}
-use Rattle.captures.proofs.Shifts.{lines-further}
+use Rattle.pieces.proofs.Shifts.{lines-further}
 use Rattle.captures.proofs.Turning.{all-fits, passes, none-named, one-named, more-read, all-read}
 use Rattle.captures.proofs.Going.{Going, Went, went}
 

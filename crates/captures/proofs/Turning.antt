@@ -14,10 +14,11 @@ use Rattle.records.specs.Refusals.{No, no}
 use Rattle.reading.specs.Answers.{good, fails, Outcome, written, refused}
 use Rattle.text.specs.Putting.{puts}
 use Rattle.listings.specs.Lines.{lineRoom}
-use Rattle.captures.specs.declared.pieces.Listed.{Listed}
+use Rattle.pieces.specs.declared.pieces.Listed.{Listed}
 use Rattle.captures.specs.declared.lister.Lister.{Lister}
 use Rattle.captures.specs.declared.lister.Wants.{Wants}
-use Rattle.captures.specs.Pieces.{badLine, listPart, keptFrom, tailPut}
+use Rattle.pieces.specs.Pieces.{listPart, keptFrom, tailPut}
+use Rattle.captures.specs.Captures.{badLine}
 use Rattle.captures.specs.Lister.{Turned, placeFits, inRanges, listFault, lineFor, ended, again, behind, unnamed, beside, carried, carriedOn, listingOn, readingOn, wantedOf, listOf}
 
 module _ (m : Lister) (len got : ℕ) where

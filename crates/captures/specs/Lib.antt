@@ -1,5 +1,4 @@
-pub mod Pieces
+pub mod Captures
 pub mod Lister
-pub mod Whole
 pub mod Runs
 pub mod Sample

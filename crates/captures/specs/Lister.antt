@@ -11,11 +11,12 @@ use Rattle.records.specs.Refusals.{no}
 use Rattle.reading.specs.Answers.{Fault, good, fails, Outcome, written, refused}
 use Rattle.text.specs.Putting.{puts}
 use Rattle.listings.specs.Lines.{lineRoom}
-use Rattle.captures.specs.declared.pieces.Listed.{Listed}
+use Rattle.pieces.specs.declared.pieces.Listed.{Listed}
 use Rattle.captures.specs.declared.lister.Lister.{Lister}
 use Rattle.captures.specs.declared.lister.Wants.{Wants}
 use Rattle.captures.specs.declared.lister.Wants.the-variants.{Read, Again, End}
-use Rattle.captures.specs.Pieces.{wrapped, lineNamed, badLine, listPart, keptFrom, tailPut}
+use Rattle.pieces.specs.Pieces.{wrapped, listPart, keptFrom, tailPut}
+use Rattle.captures.specs.Captures.{lineNamed, badLine}
 
 -- the state behind a turn, its answer, the buffer and the output
 abbrev pub Turned : Type 0

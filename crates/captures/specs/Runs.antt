@@ -8,7 +8,7 @@ use Rattle.reading.specs.Answers.{good, Outcome, written, refused}
 use Rattle.listings.specs.Lines.{lineRoom}
 use Rattle.captures.specs.declared.lister.Lister.{Lister}
 use Rattle.captures.specs.declared.lister.Wants.the-variants.{Read, Again, End}
-use Rattle.captures.specs.Pieces.{listingOf}
+use Rattle.captures.specs.Captures.{listingOf}
 use Rattle.captures.specs.Lister.{Turned, atFirst, listFault, listOf}
 
 -- where a run stands: the state and the buffer that a turn left, all bytes that were read and all that were written

@@ -8,7 +8,7 @@ use Prim.Native.String.{String}
 use Rattle.laws.specs.Truth.{from}
 use Rattle.laws.specs.Text.{codes}
 use Rattle.characters.specs.Marks.{lf, cr}
-use Rattle.captures.specs.Pieces.{listingOf}
+use Rattle.captures.specs.Captures.{listingOf}
 
 -- a telegram, and a line of text
 abbrev framed : String → List ℕ

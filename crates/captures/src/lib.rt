@@ -1,3 +1,3 @@
-// The lines of a capture, piece by piece (01, the end of 'Bench cases').
+// The listing of a capture of any length, a turn at a time.
+pub mod captures;
 pub mod lister;
-pub mod pieces;

@@ -1,9 +1,3 @@
-pub mod Steps
 pub mod Readings
-pub mod Openings
-pub mod First
-pub mod Ranges
-pub mod Held
-pub mod Hits
-pub mod Agree
 pub mod Answers
+pub mod Agree

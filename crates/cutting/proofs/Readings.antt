@@ -8,8 +8,9 @@ use Rattle.forms.specs.Lines.{isLine}
 use Rattle.reading.specs.declared.answers.Reading.{Reading}
 use Rattle.reading.specs.Answers.{answerOf}
 use Rattle.reading.specs.Reading.{readingOf}
-use Rattle.cutting.specs.declared.search.Span.the-variants.{Found, Nothing}
-use Rattle.cutting.specs.Search.{spanOf, partOf, nothing, read, refused, nextOf}
+use Rattle.searching.specs.declared.search.Span.the-variants.{Found, Nothing}
+use Rattle.searching.specs.Search.{spanOf, partOf}
+use Rattle.cutting.specs.Cutting.{nothing, read, refused, nextOf}
 
 module _ (line : ℕ) (s : List ℕ) (from : ℕ) where
   pub bad-line : isLine line ≡ false → refused (no 15 0) ≡ nextOf line s from

@@ -1,4 +1,2 @@
-pub mod Gather
-pub mod Search
-pub mod Telegrams
-pub mod Streams
+pub mod Cutting
+pub mod Same

@@ -5,9 +5,9 @@ use mathlib.Core.List.{List}
 use lib.Dec.{eqb}
 use lib.ListN.{length}
 use Rattle.records.specs.Refusals.{no}
-use Rattle.cutting.specs.Gather.{Cut, atStart, gatherOf}
-use Rattle.cutting.specs.declared.gather.Gatherer.{Gatherer}
-use Rattle.cutting.specs.declared.gather.Item.the-variants.{Byte, Hit}
+use Rattle.gathering.specs.Gather.{Cut, atStart, gatherOf}
+use Rattle.gathering.specs.declared.gather.Gatherer.{Gatherer}
+use Rattle.gathering.specs.declared.gather.Item.the-variants.{Byte, Hit}
 use Rattle.states.specs.Gatherers.{gathererLength, loadOf, saveOf}
 use Rattle.results.specs.Result.{zeros, refusing}
 use Rattle.results.specs.Telegrams.{cutResult}

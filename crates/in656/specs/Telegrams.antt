@@ -9,7 +9,7 @@ use Rattle.forms.specs.Lines.{isLine}
 use Rattle.reading.specs.Answers.{Answer, accepted, refused}
 use Rattle.reading.specs.Reading.{readingOf}
 use Rattle.writing.specs.Writing.{Write, writingOf}
-use Rattle.cutting.specs.Search.{spanOf}
+use Rattle.searching.specs.Search.{spanOf}
 use Rattle.blocks.specs.Layout.{filled}
 use Rattle.blocks.specs.Record.{recordLength, recordBytes, recordIn}
 use Rattle.results.specs.declared.result.In656Result.{In656Result}

@@ -1,10 +1,10 @@
 // Gathering on a state of bytes.
 ghost use mathlib.Core.Path.{_≡_};
-ghost use Rattle.cutting.specs.Gather.{gatheredOf};
+ghost use Rattle.gathering.specs.Gather.{gatheredOf};
 ghost use Rattle.in656.specs.Gatherers.{gathererStart, gathered, gathererByte, gathererHit};
-use cutting::gather::Gatherer;
-use cutting::gather::Item;
-use cutting::gather::Step;
+use gathering::gather::Gatherer;
+use gathering::gather::Item;
+use gathering::gather::Step;
 use records::refusals::Refusal;
 use results::result::In656Result;
 use results::result::done;

@@ -4,7 +4,6 @@ ghost use Rattle.reading.specs.Answers.{answerOf};
 ghost use Rattle.in656.specs.Telegrams.{filledBy, readCall, writeCall, nextCall};
 use blocks::record::RECORD_LENGTH;
 use blocks::record::put_record;
-use cutting::search::span_of;
 use forms::lines::is_line;
 use inputs::numbers::byte_or;
 use inputs::numbers::is_typed;
@@ -17,6 +16,7 @@ use results::result::refuse;
 use results::telegrams::of_reading;
 use results::telegrams::of_span;
 use results::telegrams::of_writing;
+use searching::search::span_of;
 use writing::writing::write;
 
 // The record of a reading fills the block.

@@ -2,10 +2,10 @@
 use Prim.Native.Nat.{ℕ, _-_}
 use Rattle.reading.specs.Answers.{Answer, accepted, Outcome, written}
 use Rattle.reading.specs.Answers as a
-use Rattle.cutting.specs.Gather.{Cut, nothing, telegram}
-use Rattle.cutting.specs.Gather as g
-use Rattle.cutting.specs.declared.search.Span.{Span}
-use Rattle.cutting.specs.declared.search.Span.the-variants.{Found, Nothing}
+use Rattle.gathering.specs.Gather.{Cut, nothing, telegram}
+use Rattle.gathering.specs.Gather as g
+use Rattle.searching.specs.declared.search.Span.{Span}
+use Rattle.searching.specs.declared.search.Span.the-variants.{Found, Nothing}
 use Rattle.results.specs.declared.result.In656Result.{In656Result}
 use Rattle.results.specs.Result.{zeros, saying, refusing, withPlace, withWritten, withNumber, withRecord}
 

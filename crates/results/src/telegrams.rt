@@ -1,17 +1,17 @@
 // The results of reading, writing, gathering and searching.
 ghost use mathlib.Core.Path.{_≡_};
 ghost use Rattle.reading.specs.Answers.{answerOf, outcomeOf};
-ghost use Rattle.cutting.specs.Gather.{gatheredOf};
+ghost use Rattle.gathering.specs.Gather.{gatheredOf};
 ghost use Rattle.results.specs.Telegrams.{readResult, writeResult, cutResult, spanResult};
 use crate::result::In656Result;
 use crate::result::done;
 use crate::result::refuse;
 use crate::result::say;
 use characters::slices::less;
-use cutting::gather::Gathered;
-use cutting::search::Span;
+use gathering::gather::Gathered;
 use reading::answers::Reading;
 use reading::answers::Writing;
+use searching::search::Span;
 
 // Outcome of a gathered item and of a search: there is a telegram.
 pub const TELEGRAM: u32 = 1;

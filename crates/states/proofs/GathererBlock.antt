@@ -7,7 +7,7 @@ use lib.Seq.{take-all}
 use borrow.Author.Tests.{leb-false}
 use Rattle.laws.proofs.Truths.{not-true}
 use Rattle.characters.specs.Marks.{longest}
-use Rattle.cutting.specs.declared.gather.Gatherer.{Gatherer}
+use Rattle.gathering.specs.declared.gather.Gatherer.{Gatherer}
 use Rattle.states.specs.Gatherers.{gathererBytes, gathererLength, gathererAt, blank, inRanges, Typed, GathererBack, OtherGatherers, OneGatherer}
 use Rattle.states.proofs.Parts.{small, pad-whole}
 use Rattle.states.proofs.Loads.{loads-saved, other, one}

@@ -5,7 +5,7 @@ use mathlib.Core.List.{List, [], _∷_, _++_}
 use Prim.Native.Nat.{ℕ}
 use Rattle.text.specs.Putting.{puts}
 use Rattle.text.proofs.Puts.{then}
-use Rattle.cutting.specs.declared.gather.Gatherer.{Gatherer}
+use Rattle.gathering.specs.declared.gather.Gatherer.{Gatherer}
 use Rattle.blocks.specs.Numbers.{fourBytes}
 use Rattle.states.specs.Layout.{countByte, flagByte, headBytes}
 use Rattle.blocks.specs.Record.{recordBytes}

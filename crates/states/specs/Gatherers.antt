@@ -7,7 +7,7 @@ use lib.Dec.{leb}
 use lib.ListN.{length, getD, replicate}
 use Rattle.laws.specs.Truth.{pad}
 use Rattle.characters.specs.Marks.{longest}
-use Rattle.cutting.specs.declared.gather.Gatherer.{Gatherer}
+use Rattle.gathering.specs.declared.gather.Gatherer.{Gatherer}
 use Rattle.blocks.specs.Layout.{stretch, filled}
 use Rattle.states.specs.Layout.{countByte}
 use Rattle.states.specs.States.{loaded, Back, OtherBlocks, OneBlock}

@@ -9,7 +9,7 @@ use characters::marks::LONGEST;
 use characters::slices::byte_at;
 use characters::slices::part;
 use characters::slices::wide;
-use cutting::gather::Gatherer;
+use gathering::gather::Gatherer;
 use text::putting::put_byte;
 use text::putting::put_text;
 use words::fields::same;

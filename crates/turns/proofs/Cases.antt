@@ -10,6 +10,10 @@ use Rattle.turns.specs.declared.turns.Turn.{Turn}
 use Rattle.turns.specs.declared.turns.Turn.the-variants.{Joins, Ends, Drops}
 use Rattle.turns.specs.Turns.{turnOf, pickTurn}
 
+-- LF is not CR
+pub apart : {A : Type 0} {byte : ℕ} → byte ≡ lf → byte ≡ cr → A
+apart l c = let z : ⊥ = omega arith in absurd z
+
 pub data Case (len byte : ℕ) : Turn → Type 0 where
   -- LF begins a telegram, also inside another
   begins : byte ≡ lf → Case len byte (Joins 0)

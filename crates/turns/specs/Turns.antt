@@ -1,10 +1,15 @@
 -- What one byte does to the telegram that is being gathered (01 'Cutting the stream'). Assumes nothing.
 use Prim.Native.Nat.{ℕ}
+use mathlib.Core.Path.{_≡_}
 use mathlib.Core.Bool.{Bool, true, false}
 use lib.Dec.{leb, eqb}
 use Rattle.characters.specs.Marks.{lf, cr, unfinished}
 use Rattle.turns.specs.declared.turns.Turn.{Turn}
 use Rattle.turns.specs.declared.turns.Turn.the-variants.{Joins, Ends, Drops}
+
+-- a byte that is neither LF nor CR
+abbrev pub Plain : ℕ → Type 0
+Plain byte = ¬ (byte ≡ lf) × ¬ (byte ≡ cr)
 
 abbrev pub pickTurn : Bool → Turn → Turn → Turn
 pickTurn true a b = a

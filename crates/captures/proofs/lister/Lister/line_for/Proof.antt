@@ -1,7 +1,7 @@
 -- `line_for` looks at the first byte where no line is known. Assumes nothing.
 use mathlib.Core.Path.{ap, _∙_}
 use borrow.Author.Tests.{eq-eqb, ne-eqb}
-use Rattle.captures.specs.Pieces.{lineNamed}
+use Rattle.captures.specs.Captures.{lineNamed}
 use Rattle.captures.specs.Lister.{lineFor}
 use borrow.Author.Needs.{needs}
 use Rattle.captures.proofs.lister.Lister.line_for.Statement.{statement}

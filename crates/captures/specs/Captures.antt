@@ -1,0 +1,21 @@
+-- The listing of a whole capture (01, the end of 'Bench cases'). Assumes nothing.
+use Prim.Native.Nat.{ℕ, _-_}
+use Prim.Native.Char.{code}
+use mathlib.Core.Bool.{cond}
+use mathlib.Core.List.{List, [], _∷_, _++_}
+use Rattle.laws.specs.Text.{codes}
+use Rattle.characters.specs.Marks.{lf}
+use Rattle.forms.specs.Lines.{isLine}
+use Rattle.pieces.specs.Pieces.{linesOf}
+
+-- the line that a capture's first byte names, 0 where it names none, and what is printed then
+unfoldable pub lineNamed : ℕ → ℕ
+lineNamed digit = cond (isLine (digit - code "0")) (digit - code "0") 0
+
+abbrev pub badLine : List ℕ
+badLine = codes "no 15 0" ++ (lf ∷ [])
+
+-- what the program prints for a whole input: ordinals from 1, offsets from 0 after the digit
+unfoldable pub listingOf : List ℕ → List ℕ
+listingOf [] = badLine
+listingOf (digit ∷ s) = cond (isLine (lineNamed digit)) (linesOf (lineNamed digit) 1 0 s 0) badLine

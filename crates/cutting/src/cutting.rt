@@ -1,0 +1,39 @@
+// The next telegram of a lent slice, cut and then read (01 'Cutting the stream').
+ghost use mathlib.Core.Path.{_≡_};
+ghost use Rattle.cutting.specs.Cutting.{cuttingOf, nextOf};
+use forms::lines::is_line;
+use reading::answers::Reading;
+use reading::reading::read;
+use records::refusals::Refusal;
+use searching::search::Span;
+use searching::search::part_of;
+use searching::search::span_of;
+
+// A cut telegram is then read; or none is left, or the line is refused.
+pub enum Cutting {
+    Read {
+        start: usize,
+        end: usize,
+        reading: Reading,
+    },
+    Nothing,
+    Refused(Refusal),
+}
+
+// The next telegram, cut and read on a line: 15 comes before all.
+pub fn next_reading(line: u8, s: &[u8], from: usize) -> Cutting
+    ensures { λ r. ⌜ cuttingOf r ≡ nextOf line (now (s .entry)) from ⌝ }
+{
+    if !is_line(line) {
+        return Cutting::Refused(Refusal::State);
+    }
+    let span = span_of(s, from);
+    match span {
+        Span::Found { start, end } => Cutting::Read {
+            start,
+            end,
+            reading: read(line, part_of(s, span)),
+        },
+        Span::Nothing => Cutting::Nothing,
+    }
+}

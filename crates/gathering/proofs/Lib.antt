@@ -1,0 +1,4 @@
+pub mod Ranges
+pub mod Held
+pub mod Hits
+pub mod Answers

@@ -1,0 +1,36 @@
+-- `gather` tests the state and matches the item as its definition does. Assumes nothing.
+use borrow.Author.Tests.{lt-leb}
+use Rattle.laws.proofs.Tests.{tests}
+use Rattle.gathering.specs.Gather.{gatherOf}
+use borrow.Author.Needs.{needs}
+use Rattle.gathering.proofs.gather.Gatherer.gather.Statement.{statement}
+use Rattle.gathering.proofs.gather.Gatherer.gather.Tie as tie
+
+returns : tie.Need-returns
+unfolding gatherOf
+returns c = search tests
+
+enum-known-item : tie.Need-enum-known-item
+enum-known-item c = search needs
+
+gather-byte-requires : tie.Need-gather-byte-requires
+gather-byte-requires c κs = search needs
+
+enum-told : tie.Need-enum-told
+enum-told c = search needs
+
+close-requires : tie.Need-close-requires
+close-requires c κs = search needs
+
+returns-2 : tie.Need-returns-2
+unfolding gatherOf
+returns-2 c = rw (lt-leb _ _ (c .before .before .before .before .if1 .left), c .before .before .item .given .1) (c .gather-byte .ensures)
+
+returns-3 : tie.Need-returns-3
+unfolding gatherOf
+returns-3 c = rw (lt-leb _ _ (c .before .before .before .if1 .left), c .before .enum-told .given .1, c .close .ensures)
+
+pub gather-spec : {M : Type 1} → statement M
+gather-spec =
+    tie.close
+    (tie.spec returns enum-known-item gather-byte-requires enum-told close-requires returns-2 returns-3)

@@ -1,0 +1,2 @@
+// Gathering a telegram item by item.
+pub mod gather;

@@ -1,0 +1,18 @@
+-- `tail_len` answers the length of what `part` promises. Assumes nothing.
+use mathlib.Core.Path.{ap}
+use lib.ListN.{length}
+use borrow.Author.Needs.{needs}
+use Rattle.pieces.proofs.pieces.tail_len.Statement.{statement}
+use Rattle.pieces.proofs.pieces.tail_len.Tie as tie
+
+less-requires : tie.Need-less-requires
+less-requires c κs = search needs
+
+part-requires : tie.Need-part-requires
+part-requires c κs = search needs
+
+returns : tie.Need-returns
+returns c = rw (← (c .before .less .ensures)) (ap length (c .part .ensures))
+
+pub tail-len-spec : {M : Type 1} → statement M
+tail-len-spec = tie.close (tie.spec less-requires part-requires returns)

@@ -1,0 +1,108 @@
+// The lines of a lent slice, and what is kept of it for the next piece of a capture (01 'Bench cases', 'Cutting the stream').
+ghost use mathlib.Core.Path.{_≡_};
+ghost use lib.ListN.{length};
+ghost use Rattle.pieces.specs.Pieces.{nextLineOf, listPart, keptFrom, tailOf, tailPut};
+use characters::marks::UNFINISHED;
+use characters::slices::less;
+use characters::slices::part;
+use listings::lines::put_line;
+use reading::answers::Writing;
+use reading::reading::read;
+use searching::search::Span;
+use searching::search::part_of;
+use searching::search::span_of;
+
+// What the next telegram's line is: of so many bytes, for a telegram that ends at a place; or it has no room, or none is left.
+enum NextLine {
+    Line { end: usize, len: usize },
+    Full,
+    Nothing,
+}
+
+// The line of the next telegram, from the front of an output.
+fn put_next(line: u8, ordinal: u64, base: u64, s: &[u8], from: usize, out: &mut [u8]) -> NextLine
+    ensures { λ r. ⌜ (r, now (out .exit)) ≡ nextLineOf line ordinal base (now (s .entry)) from (now (out .entry)) ⌝ }
+{
+    let span = span_of(s, from);
+    match span {
+        Span::Found { start, end } => {
+            let offset = std::num::wrapping_add_u64(base, start as u64);
+            let put = put_line(ordinal, offset, read(line, part_of(s, span)), out);
+            match put {
+                Writing::Written(len) => NextLine::Line { end, len },
+                Writing::Refused(_) => NextLine::Full,
+            }
+        }
+        Span::Nothing => NextLine::Nothing,
+    }
+}
+
+// How far a listing got: the place and ordinal of what comes next, how many bytes of lines there are, and whether no telegram is left.
+pub struct Listed {
+    pub next: usize,
+    pub ordinal: u64,
+    pub filled: usize,
+    pub done: bool,
+}
+
+// The lines of the telegrams from a place on, as many as there is room for.
+pub fn list_part(line: u8, ordinal: u64, base: u64, s: &[u8], from: usize, out: &mut [u8]) -> Listed
+    ensures { λ r. ⌜ (r, now (out .exit)) ≡ listPart line ordinal base (now (s .entry)) from (now (out .entry)) ⌝ }
+{
+    let mut next = from;
+    let mut count = ordinal;
+    let mut filled: usize = 0;
+    loop {
+        match put_next(line, count, base, s, next, &mut out[filled..]) {
+            NextLine::Line { end, len } => {
+                next = end;
+                count = std::num::wrapping_add_u64(count, 1);
+                filled = filled + len;
+            }
+            NextLine::Full => {
+                return Listed {
+                    next,
+                    ordinal: count,
+                    filled,
+                    done: false,
+                };
+            }
+            NextLine::Nothing => {
+                return Listed {
+                    next,
+                    ordinal: count,
+                    filled,
+                    done: true,
+                };
+            }
+        }
+    }
+}
+
+// Where the bytes begin that are kept for the next piece: behind the last telegram, and an unfinished one has at most 65.
+pub fn kept_from(end: usize, len: usize) -> usize
+    ensures { λ r. ⌜ r ≡ keptFrom end len ⌝ }
+{
+    let last = less(len, UNFINISHED);
+    if end < last { last } else { end }
+}
+
+// How many bytes there are from a place up to an end.
+fn tail_len(s: &[u8], from: usize, end: usize) -> usize
+    ensures { λ r. ⌜ r ≡ length (tailOf from end (now (s .entry))) ⌝ }
+{
+    part(s, from, less(end, from)).len()
+}
+
+// The bytes from a place up to an end, moved to the front, and how many they are.
+pub fn keep_tail(buf: &mut [u8], from: usize, end: usize) -> usize
+    ensures { λ r. ⌜ (r, now (buf .exit)) ≡ tailPut from end (now (buf .entry)) ⌝ }
+{
+    let n = tail_len(buf, from, end);
+    let mut i: usize = 0;
+    while i < n {
+        buf[i] = buf[from + i];
+        i = i + 1;
+    }
+    n
+}

@@ -1,0 +1,2 @@
+// The search for the next telegram over a lent slice.
+pub mod search;
