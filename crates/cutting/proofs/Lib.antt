@@ -1,7 +1,9 @@
 pub mod Steps
+pub mod Looks
 pub mod Readings
 pub mod Openings
 pub mod First
+pub mod Looked
 pub mod Ranges
 pub mod Held
 pub mod Hits

@@ -1,3 +1,4 @@
+pub mod Looks
 pub mod Gather
 pub mod Search
 pub mod Telegrams
