@@ -1,3 +1,5 @@
 pub mod Steps
 pub mod Openings
+pub mod Looks
 pub mod First
+pub mod Looked

@@ -1,17 +1,14 @@
 -- One step of the search at a place: none is left, the byte joins, ends or drops. Assumes nothing.
-use mathlib.Core.Path.{_≡_, sym, _∙_}
+use mathlib.Core.Path.{_≡_, _∙_}
 use mathlib.Core.List.{List}
 use Prim.Native.Nat.{ℕ, _≤_, _<_, _+_, _-_}
-use native.Mathlib.Omega.{arith}
 use native.Mathlib.Numerals.{add-one}
 use lib.ListN.{length, drop, getD, drop-of-length-le}
 use lib.Seq.{drop-cons}
 use Rattle.turns.specs.declared.turns.Turn.the-variants.{Joins, Ends, Drops}
-use Rattle.searching.specs.declared.search.Span.{Span}
 use Rattle.searching.specs.declared.search.Span.the-variants.{Found, Nothing}
 use Rattle.turns.specs.Turns.{turnOf}
 use Rattle.searching.specs.Search.{onTurn, cutFrom}
-use Rattle.turns.proofs.Cases.{joins-at}
 
 -- behind the end none is left
 pub none-left : (s : List ℕ) (len i : ℕ) → length s ≤ i → cutFrom (drop i s) len i ≡ Nothing
@@ -31,12 +28,3 @@ on-joins s len i at h e = at-place s len i h ∙ rw e
 
 pub on-drops : (s : List ℕ) (len i : ℕ) → i < length s → turnOf len (getD s i 0) ≡ Drops → cutFrom (drop i s) len i ≡ cutFrom (drop (i + 1) s) 0 (i + 1)
 on-drops s len i h e = at-place s len i h ∙ rw e
-
--- so a search that goes on finds what it would have found
-pub joined : (s : List ℕ) (len i at n : ℕ) (x : Span) → i < length s → turnOf len (getD s i 0) ≡ Joins at → n ≡ at + 1
-    → (len ≤ i) × (cutFrom (drop i s) len i ≡ x) → (n ≤ i + 1) × (cutFrom (drop (i + 1) s) n (i + 1) ≡ x)
-joined s len i at n x h e f g = (omega (arith, joins-at len (getD s i 0) at e .0, g .0), rw f (sym (on-joins s len i at h e) ∙ g .1))
-
-pub dropped : (s : List ℕ) (len i n : ℕ) (x : Span) → i < length s → turnOf len (getD s i 0) ≡ Drops → n ≡ 0
-    → (len ≤ i) × (cutFrom (drop i s) len i ≡ x) → (n ≤ i + 1) × (cutFrom (drop (i + 1) s) n (i + 1) ≡ x)
-dropped s len i n x h e f g = (omega arith, rw f (sym (on-drops s len i h e) ∙ g .1))

@@ -1,10 +1,14 @@
 // The search for the next telegram over a lent slice (01 'Cutting the stream').
 ghost use mathlib.Core.Path.{_≡_};
+ghost use Prim.Native.Nat.{_≤_};
+ghost use lib.ListN.{length};
+ghost use Rattle.searching.specs.Looks.{NextCr, NearLf};
 ghost use Rattle.searching.specs.Search.{spanOf, partOf, offsetOf, offsetPart};
+use characters::marks::CR;
+use characters::marks::LF;
+use characters::marks::UNFINISHED;
 use characters::slices::less;
 use characters::slices::part;
-use turns::turns::Turn;
-use turns::turns::turn_of;
 
 // Where a telegram lies: its LF at start, its CR before end; or none is left.
 pub enum Span {
@@ -12,28 +16,57 @@ pub enum Span {
     Nothing,
 }
 
-// Where the next telegram lies, looking from any place on.
+// Where the next CR stands from a place on; past the last byte where there is none.
+fn next_cr(s: &[u8], from: usize) -> usize
+    ensures { λ r. ⌜ NextCr (now (s .entry)) from r ⌝ }
+{
+    let mut i = from;
+    while i < s.len() {
+        if s[i] == CR {
+            return i;
+        }
+        i = i + 1;
+    }
+    i
+}
+
+// How far back from end the nearest LF stands, at most 65 bytes and not before a place; 0 where there is none.
+fn near_lf(s: &[u8], from: usize, end: usize) -> usize
+    requires { ⌜ end ≤ length (now s) ⌝ }
+    ensures { λ r. ⌜ NearLf (now (s .entry)) from end r ⌝ }
+{
+    let most = less(end, from);
+    let mut back: usize = 1;
+    while back <= most {
+        if UNFINISHED < back {
+            return 0;
+        }
+        if s[end - back] == LF {
+            return back;
+        }
+        back = back + 1;
+    }
+    0
+}
+
+// Where the next telegram lies, looking from any place on: at the next CR that has an LF near before it, with no CR between.
 pub fn span_of(s: &[u8], from: usize) -> Span
     ensures { λ r. ⌜ r ≡ spanOf (now (s .entry)) from ⌝ }
 {
-    let mut len: usize = 0;
-    let mut i = from;
-    while i < s.len() {
-        match turn_of(len, s[i]) {
-            Turn::Ends(at) => {
-                return Span::Found {
-                    start: i - at,
-                    end: i + 1,
-                };
-            }
-            Turn::Joins(at) => {
-                len = at + 1;
-            }
-            Turn::Drops => {
-                len = 0;
-            }
+    let mut place = from;
+    while place < s.len() {
+        let end = next_cr(s, place);
+        if s.len() <= end {
+            return Span::Nothing;
         }
-        i = i + 1;
+        let back = near_lf(s, place, end);
+        if 0 < back {
+            return Span::Found {
+                start: end - back,
+                end: end + 1,
+            };
+        }
+        place = end + 1;
     }
     Span::Nothing
 }

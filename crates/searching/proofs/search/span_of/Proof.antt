@@ -1,74 +1,71 @@
--- `span_of` searches as its definition does: what is found from the loop's place on is what is found from the first. Assumes nothing.
-use mathlib.Core.Path.{_≡_, refl, sym, _∙_}
-use mathlib.Core.Logic.{⊎-elim}
-use Prim.Native.Nat.{_≤_, _-_}
+-- `span_of` goes from CR to CR: no telegram ends before the loop's place. Assumes nothing.
+use mathlib.Core.Path.{_≡_}
+use Prim.Native.Nat.{_-_}
 use native.Mathlib.Omega.{arith}
-use lib.ListN.{length, drop}
+use lib.ListN.{length}
 use borrow.Author.Needs.{needs}
 use denote.Ref.{now}
-use Rattle.searching.specs.Search.{cutFrom, spanOf}
-use Rattle.turns.proofs.Cases.{joins-at, ends-at}
-use Rattle.searching.proofs.Steps.{none-left, on-ends, joined, dropped}
+use Rattle.searching.proofs.Looked.{Passed, none-passed, no-telegram, no-telegram-ends, first-ends, cr-passed}
 use Rattle.searching.proofs.search.span_of.Statement.{statement}
 use Rattle.searching.proofs.search.span_of.Tie as tie
 
 abbrev Inv-loop : tie.InvT-loop
-Inv-loop s from len₀ i₀ len i = (len ≤ i) × (cutFrom (drop i s) len i ≡ spanOf s from)
+Inv-loop s from place₀ place = Passed s from place
 
 abbrev μ-loop : tie.MeasureT-loop
-μ-loop s from len₀ i₀ len i = length s - i
+μ-loop s from place₀ place = length s - place
 
 loop-holds : tie.Need-loop-holds Inv-loop μ-loop
-unfolding spanOf
-loop-holds c = (omega arith, refl)
+loop-holds c = none-passed (now (c .before .args .s)) (c .before .args .from)
 
-shared-slice-read-turn-of : tie.Need-shared-slice-read-turn-of Inv-loop μ-loop
-shared-slice-read-turn-of c = search needs
-
-turn-of-requires : tie.Need-turn-of-requires Inv-loop μ-loop
-turn-of-requires c κs = search needs
-
-enum-known-at : tie.Need-enum-known-at Inv-loop μ-loop
-enum-known-at c = search needs
-
-sub-t12 : tie.Need-sub-t12 Inv-loop μ-loop
-sub-t12 c = let h = ends-at _ _ _ (sym (c .before .before .before .turn-of .ensures) ∙ c .before .at .given .1) in omega arith
-
-add-t13 : tie.Need-add-t13 Inv-loop μ-loop
-add-t13 c = search needs
+next-cr-requires : tie.Need-next-cr-requires Inv-loop μ-loop
+next-cr-requires c κs = search needs
 
 returns : tie.Need-returns Inv-loop μ-loop
 returns c =
-    let t = c .before .before .before .before .before in
-    let l = t .before .loop in
-    sym (on-ends (now (t .before .before .before .args .s)) (l .len) (l .i) _ (t .loop-test .taken) (sym (c .before .before .before .turn-of .ensures) ∙ c .before .at .given .1)) ∙ l .inv .1
+    let l = c .before .before .before in
+    let a = l .before .before .args in
+    no-telegram-ends (now (a .s)) (a .from) (l .loop .place) (c .before .next-cr .result) (l .loop .inv) (c .before .next-cr .ensures) (c .if1 .taken)
 
-enum-known-at-2 : tie.Need-enum-known-at-2 Inv-loop μ-loop
-enum-known-at-2 c = search needs
+near-lf-requires : tie.Need-near-lf-requires Inv-loop μ-loop
+near-lf-requires c κs = omega (arith, c .if1 .left)
 
-add-len : tie.Need-add-len Inv-loop μ-loop
-add-len c = let h = joins-at _ _ _ (sym (c .before .before .before .turn-of .ensures) ∙ c .before .at2 .given .1) in omega arith
+sub-t8 : tie.Need-sub-t8 Inv-loop μ-loop
+sub-t8 c = omega (arith, c .before .near-lf .ensures .stands (c .if2 .taken) .2)
 
-enum-told : tie.Need-enum-told Inv-loop μ-loop
-enum-told c = search needs
+add-t9 : tie.Need-add-t9 Inv-loop μ-loop
+add-t9 c = search needs
 
-add-i : tie.Need-add-i Inv-loop μ-loop
-add-i c = search needs
+returns-2 : tie.Need-returns-2 Inv-loop μ-loop
+returns-2 c =
+    let n = c .before .before .before in
+    let l = n .before .before in
+    let a = l .before .before .args in
+    let near = c .before .near-lf in
+    first-ends (now (a .s)) (a .from) (l .loop .place) (n .next-cr .result) (near .result) (l .loop .inv) (n .next-cr .ensures) (c .before .before .if1 .left) (near .ensures) (c .if2 .taken)
+
+add-place : tie.Need-add-place Inv-loop μ-loop
+add-place c = search needs
 
 loop-less : tie.Need-loop-less Inv-loop μ-loop
-loop-less c = search needs
+loop-less c =
+    let n = c .before .before .before in
+    omega (arith, n .next-cr .ensures .onwards, n .before .loop-test .taken)
 
 loop-again : tie.Need-loop-again Inv-loop μ-loop
 loop-again c =
-    let t = c .before .before .before in
-    let l = t .before .loop in
-    ⊎-elim
-    (λ w. joined (now (t .before .before .before .args .s)) (l .len) (l .i) _ _ _ (t .loop-test .taken) (sym (c .before .turn-of .ensures) ∙ w .1 .given .1) (w .3) (l .inv))
-    (λ w. dropped (now (t .before .before .before .args .s)) (l .len) (l .i) _ _ (t .loop-test .taken) (sym (c .before .turn-of .ensures) ∙ w .1 .given .1) (w .2) (l .inv))
-    (c .match .came)
+    let n = c .before .before .before in
+    let l = n .before .before in
+    let a = l .before .before .args in
+    let near = c .before .near-lf in
+    let z : near .result ≡ 0 = omega (arith, c .if2 .left) in
+    cr-passed (now (a .s)) (a .from) (l .loop .place) (n .next-cr .result) (l .loop .inv) (n .next-cr .ensures) (c .before .before .if1 .left) (rw z at (near .ensures))
 
-returns-2 : tie.Need-returns-2 Inv-loop μ-loop
-returns-2 c = sym (none-left (now (c .before .before .before .args .s)) (c .before .loop .len) (c .before .loop .i) (c .loop-test .left)) ∙ c .before .loop .inv .1
+returns-3 : tie.Need-returns-3 Inv-loop μ-loop
+returns-3 c =
+    let l = c .before in
+    let a = l .before .before .args in
+    no-telegram (now (a .s)) (a .from) (l .loop .place) (l .loop .inv) (c .loop-test .left)
 
 pub span-of-spec : {M : Type 1} → statement M
 span-of-spec =
@@ -77,16 +74,13 @@ span-of-spec =
     Inv-loop
     μ-loop
     loop-holds
-    shared-slice-read-turn-of
-    turn-of-requires
-    enum-known-at
-    sub-t12
-    add-t13
+    next-cr-requires
     returns
-    enum-known-at-2
-    add-len
-    enum-told
-    add-i
+    near-lf-requires
+    sub-t8
+    add-t9
+    returns-2
+    add-place
     loop-less
     loop-again
-    returns-2)
+    returns-3)
