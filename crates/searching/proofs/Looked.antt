@@ -11,7 +11,7 @@ use Rattle.searching.specs.Search.{spanOf}
 use Rattle.searching.specs.Looks.{NextCr, NearLf}
 use Rattle.turns.specs.Turns.{Plain}
 use Rattle.searching.specs.Telegrams.{Telegram}
-use Rattle.searching.proofs.Openings.{apart}
+use Rattle.turns.proofs.Cases.{apart}
 use Rattle.searching.proofs.First.{search-answers}
 
 -- every telegram from a place on begins at i or behind it
