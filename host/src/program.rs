@@ -41,6 +41,7 @@ pub fn said(name: &str, input: &str) -> String {
 impl Program {
     /// Starts the program at a path.
     pub fn start(path: impl AsRef<OsStr>) -> Result<Program> {
+        std::fs::metadata(path.as_ref())?;
         let mut child = command(path)
             .stdin(Stdio::piped())
             .stdout(Stdio::piped())

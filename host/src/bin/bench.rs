@@ -1,6 +1,7 @@
 //! Times the library through its C face beside the second version, on the same inputs and in one
 //! run, and prints a table: document 01 has no section for it.
 
+use host::arguments::{arguments, stop};
 use host::blocks::{record_block, DESK, GATHERER, RECORD};
 use host::cutting::{telegrams, Cutter, Heard};
 use host::desk::{Desk, ROOM};
@@ -207,6 +208,9 @@ fn made(mut piece: impl FnMut() -> Vec<u8>) -> Vec<u8> {
 }
 
 fn main() {
+    if !arguments().is_empty() {
+        stop("usage: bench");
+    }
     let face = match library() {
         Ok(face) => face,
         Err(why) => return println!("skipped: {why}"),
