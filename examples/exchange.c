@@ -34,9 +34,10 @@ static int refused(in656_result r) {
   return r.refusal != IN656_OK;
 }
 
-int main(void) {
+int main(int argc, char **argv) {
   in656_result r;
   size_t n;
+  if (argc != 1) return fprintf(stderr, "usage: %s\n", argv[0]), 2;
   if (refused(in656_desk_start(desk, sizeof desk, IN656_LINE_ATC_TC))) return 1;
   if (refused(in656_master_start(master, sizeof master, IN656_LINE_ATC_TC, 0))) return 1;
 
