@@ -11,7 +11,7 @@ use std::process::{Command, Output};
 
 const KIT: &str = "kit of the test";
 
-/// A stand-in for rt: it proves in order, says each crate as rt does, and fails at the crate in FAILS.
+/// A stand-in for rt: it takes the crates in order, writes what rt writes, and fails at the crate in FAILS.
 const RT: &str = r#"#!/bin/sh
 case $1 in
 version) echo "$KIT"; exit ;;
@@ -48,7 +48,7 @@ fn made(name: &str) -> PathBuf {
     folder
 }
 
-/// Runs `tools/build` with words, as a kit that calls itself so and fails at a crate.
+/// Runs `tools/build` with words. The stand-in gives this kit as its version, and fails at this crate.
 fn build(folder: &Path, words: &[&str], kit: &str, fails: &str) -> Output {
     let path = std::env::var("PATH").expect("a path");
     Command::new(folder.join("tools/build"))
@@ -65,7 +65,7 @@ fn text(bytes: &[u8]) -> String {
     String::from_utf8_lossy(bytes).into_owned()
 }
 
-/// Holds that a tool printed nothing, said one line, and ended with status 2.
+/// Checks that a tool printed nothing, said one line, and ended with status 2.
 fn stops(output: &Output, line: &str) {
     assert_eq!(text(&output.stderr), format!("{line}\n"));
     assert_eq!(output.status.code(), Some(2));
@@ -90,7 +90,7 @@ fn one_line_a_crate() {
     assert!(output.status.success());
 }
 
-/// Of a crate that fails the prover's lines are shown, of one that is proved they are not.
+/// The prover's lines are shown of the crate that fails, and of no other.
 #[test]
 fn a_crate_that_fails() {
     let folder = made("a build that fails");
@@ -114,7 +114,7 @@ fn a_kit_that_is_missing_or_another() {
         &build(&folder, &["check", "four"], KIT, ""),
         "build: crates.txt lists no crate four",
     );
-    // a path that has little, and no rt
+    // a PATH with little in it, and no rt
     fs::remove_file(folder.join("bin/rt")).expect("it goes");
     for tool in ["cat", "dirname"] {
         let place = ["/usr/bin", "/bin"].map(|folder| Path::new(folder).join(tool));

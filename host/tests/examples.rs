@@ -1,5 +1,5 @@
 //! The C examples, built against the header and the library by the machine's own compilers.
-//! What the machine lacks is said in one line, and a test that needs it then ends well.
+//! Where the machine lacks something a test says so in one line and passes.
 
 mod machine;
 
@@ -28,7 +28,7 @@ fn library() -> Option<PathBuf> {
     Some(path)
 }
 
-/// Compiles sources of examples/ without a warning; what else the compiler is told stands last.
+/// Compiles sources of examples/ without a warning; further arguments of the compiler stand last.
 fn compile(compiler: &[&str], sources: &[&str], rest: &[&Path]) {
     let built = Command::new(compiler[0])
         .args(&compiler[1..])
@@ -240,7 +240,7 @@ fn each_example_says_how_it_is_called() {
     }
 }
 
-/// A bench without an answer gives up, says so, and fails; a device that is none is an error.
+/// A bench without an answer gives up, says so, and fails; so does one on a file that is no serial device.
 #[test]
 fn the_bench_fails_without_an_answer() {
     let Some(bench) = build(&C99, "bench-alone", "bench.c", true) else {
@@ -259,7 +259,7 @@ fn the_bench_fails_without_an_answer() {
             "{said}"
         );
         assert_eq!(
-            said.matches("record may not stand here").count(),
+            said.matches("call refused: not sent by this end").count(),
             2,
             "{said}"
         );

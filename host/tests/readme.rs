@@ -24,7 +24,7 @@ fn the_example() {
     assert!(page.contains(code));
 }
 
-/// Every definition of the checksum, and the rule as the README quotes it.
+/// Every definition of the checksum.
 #[test]
 fn the_definition() {
     let source = text("crates/characters/specs/Checksum.antt");

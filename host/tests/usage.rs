@@ -5,7 +5,7 @@ use host::program::command;
 use std::path::Path;
 use std::process::{Command, Output, Stdio};
 
-/// Holds that a run printed nothing, said how the program is called, and ended with status 2.
+/// Checks that a run printed nothing, said how the program is called, and ended with status 2.
 fn says(output: &Output, usage: &str) {
     assert_eq!(
         String::from_utf8_lossy(&output.stderr),
@@ -41,7 +41,7 @@ fn the_programs_of_the_host() {
     }
 }
 
-/// The proved programs take no argument: a file that is named so would not be read.
+/// The proved programs take no argument: they would not read a file that is named there.
 #[test]
 fn the_proved_programs() {
     for (name, usage) in [

@@ -1,6 +1,6 @@
-//! `capture LINE MIB SEED quiet|busy` writes a capture of so many MiB, the line digit included, to
-//! standard output, to time the listing program of document 01 with. A quiet one has mostly bytes
-//! outside telegrams, a busy one telegram after telegram.
+//! `capture LINE MIB SEED quiet|busy` writes a capture of MIB mebibytes, the line digit included, to
+//! standard output; the listing program of document 01 is timed with it. A quiet capture has mostly
+//! bytes outside telegrams, a busy one telegram after telegram.
 
 use host::arguments::{arguments, stop};
 use host::making::piece;
@@ -10,7 +10,7 @@ use std::process::ExitCode;
 
 const MIB: usize = 1 << 20;
 
-/// Writes the line digit and then pieces until so many bytes are out.
+/// Writes the line digit and then pieces, until all bytes are written.
 fn write_capture(line: u8, mut left: usize, seed: u64, busy: bool) -> std::io::Result<()> {
     let mut random = Random::seeded(seed);
     let mut output = std::io::BufWriter::with_capacity(MIB, std::io::stdout().lock());

@@ -16,8 +16,8 @@ const ENDS: [(&str, &str); 4] = [
     ("given up", "#ca3c25"),
 ];
 
-/// The shares of the four ends on a line where so many things of a hundred are lost and as
-/// many are spoiled.
+/// The shares of the four ends on a line that hits this many things of a hundred: half of them it
+/// loses, half it spoils.
 fn shares(program: &mut Program, percent: usize) -> [f64; 4] {
     let odds = Odds {
         lost: percent,
