@@ -77,16 +77,16 @@ fn one_line_a_crate() {
     let folder = made("a build");
     let output = build(&folder, &["check", "three"], KIT, "");
     let lines = "proving 1 of 3: one\nproving 2 of 3: two\nproving 3 of 3: three\n";
-    let said = text(&output.stdout);
+    let said = text(&output.stderr);
     assert!(said.starts_with(lines), "{said}");
     let rest = &said[lines.len()..];
     assert!(rest.starts_with("three: all 3 crates are proved, 0 of them earlier ("));
-    assert_eq!(text(&output.stderr), "");
+    assert_eq!(text(&output.stdout), "");
     assert!(output.status.success());
     let log = fs::read_to_string(folder.join("target/build.log")).expect("the log");
     assert!(log.contains("a line of the prover on two"), "{log}");
     let output = build(&folder, &["staticlib", "three"], KIT, "");
-    assert!(text(&output.stdout).contains("proving 3 of 3: three\n"));
+    assert!(text(&output.stderr).contains("proving 3 of 3: three\n"));
     assert!(output.status.success());
 }
 

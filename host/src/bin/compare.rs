@@ -1,6 +1,6 @@
 //! `compare [CHUNKS [DIVIDED [itself]]]` compares the library with the second version, and judges
 //! demand 3 on runs of its two ends. The gate compares 100 chunks; further ones have other seeds.
-//! DIVIDED makes every chunk so many times smaller. With `itself` the second version stands in for
+//! DIVIDED makes every chunk that many times smaller. With `itself` the second version stands in for
 //! the library: a fault that both have is then left to the judge of demand 3 to find.
 
 use host::arguments::{arguments, stop};
