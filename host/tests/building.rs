@@ -48,17 +48,24 @@ fn made(name: &str) -> PathBuf {
     folder
 }
 
-/// Runs `tools/build` with words. The stand-in gives this kit as its version, and fails at this crate.
-fn build(folder: &Path, words: &[&str], kit: &str, fails: &str) -> Output {
+/// The command `tools/build` with words. The stand-in gives this kit as its version, and fails at
+/// this crate.
+fn building(folder: &Path, words: &[&str], kit: &str, fails: &str) -> Command {
     let path = std::env::var("PATH").expect("a path");
-    Command::new(folder.join("tools/build"))
+    let mut command = Command::new(folder.join("tools/build"));
+    command
         .args(words)
         .env("PATH", format!("{}:{path}", folder.join("bin").display()))
         .env("KIT", kit)
         .env("FAILS", fails)
-        .env_remove("ANY_KIT")
-        .output()
-        .expect("it runs")
+        .env_remove("ANY_KIT");
+    command
+}
+
+/// What it says.
+fn build(folder: &Path, words: &[&str], kit: &str, fails: &str) -> Output {
+    let mut command = building(folder, words, kit, fails);
+    command.output().expect("it runs")
 }
 
 fn text(bytes: &[u8]) -> String {
@@ -106,6 +113,9 @@ fn a_kit_that_is_missing_or_another() {
     let folder = made("a build without a kit");
     let output = build(&folder, &["check", "three"], "kit 7", "");
     stops(&output, "build: wanted is the kit 'kit of the test', found is 'kit 7'; ANY_KIT=1 in front of make goes on with it");
+    let mut other = building(&folder, &["check", "three"], "kit 7", "");
+    let status = other.env("ANY_KIT", "1").output().expect("it runs").status;
+    assert!(status.success(), "ANY_KIT=1 takes another kit");
     stops(
         &build(&folder, &["check"], KIT, ""),
         "usage: tools/build check|staticlib NAME",
