@@ -1,8 +1,13 @@
-# make: builds the library, its header and the programs into dist/. make install PREFIX=.. DESTDIR=..: installs them, with the manual.
-# make check: the gate. make list IN=samples/line1.cap: lists a capture. make scene IN=FILE: runs a script of calls.
-# make demo: both ends over a simulated line. make try: the two C examples against each other over pseudo-terminals.
-# make soak FACTOR=20: what the gate compares through the C face, so many times as much. make bench: how fast the library is.
-IN ?= samples/line1.cap
+# make: proves and builds the library and the programs, and puts them into dist/ with the header.
+# make install PREFIX=/usr/local: installs dist/ and the manual; DESTDIR= goes in front of every path.
+# make list IN=samples/line1.cap: lists the telegrams of a capture.
+# make scene IN=FILE: runs a script of calls (docs/SCENES.md).
+# make demo LINE=1 SEED=33 SECONDS=90: shows both ends over a simulated line.
+# make try: runs the two C examples against each other over pseudo-terminals.
+# make check: the gate.
+# make soak FACTOR=20: compares the library with the second version, 20 times as much as the gate does.
+# make bench: measures how fast the library is.
+# make help: these lines.
 LINE ?= 1
 SEED ?= 33
 SECONDS ?= 90
@@ -29,37 +34,47 @@ HOST := cargo run --offline --quiet --manifest-path host/Cargo.toml
 # on a machine where the library does not link the program scenes shows the ends
 ENDS := $(if $(filter x86_64,$(MACHINE)),$(ARCHIVE),dist/scenes)
 
-.PHONY: all check list demo scene try soak bench shared install clean
+# $(call need,COMMAND): stops with one line where the machine lacks a command
+need = @command -v $(1) > /dev/null || { echo "make $@ needs $(1), which is not found" >&2; exit 2; }
+
+.PHONY: all help check list demo scene input try soak bench shared install clean
+# two proofs at once would write the same files; rt itself uses all processors
+.NOTPARALLEL:
+# exported, so that a name with spaces reaches the shell as one word
+list: IN ?= samples/line1.cap
+export IN
 
 all: dist/libin656.a shared dist/in656.h dist/in656.pc dist/listing dist/scenes
 
 dist/listing dist/scenes: dist/%: $(SOURCES)
-	rt check $*
-	mkdir -p dist
-	cp target/bin/$* $@
+	@tools/build check $*
+	@mkdir -p dist
+	@cp target/bin/$* $@
 
 $(ARCHIVE): $(SOURCES)
-	rt staticlib in656
-	touch $@
+	@tools/build staticlib in656
+	@touch $@
 
 dist/libin656.a: $(ARCHIVE)
-	mkdir -p dist
-	cp $< $@
+	@mkdir -p dist
+	@cp $< $@
 
 dist/in656.h: include/in656.h
-	mkdir -p dist
-	cp $< $@
+	@mkdir -p dist
+	@cp $< $@
 
 dist/in656.pc: include/in656.pc.in Makefile
-	mkdir -p dist
-	$(call PC,$${pcfiledir},$${prefix},$${prefix}) > $@
+	@mkdir -p dist
+	@$(call PC,$${pcfiledir},$${prefix},$${prefix}) > $@
 
 dist/$(SONAME): dist/libin656.a
+	$(call need,$(CC))
 	$(CC) -shared -o $@ -Wl,-soname,$(SONAME) -Wl,--whole-archive dist/libin656.a -Wl,--no-whole-archive
 	ln -sf $(SONAME) dist/libin656.so
 
 dist/examples/%: examples/%.c examples/serial.c examples/show.c examples/serial.h examples/show.h dist/in656.h dist/libin656.a
-	mkdir -p dist/examples
+	$(call need,$(CC))
+	@mkdir -p dist/examples
 	$(CC) -std=c99 -D_XOPEN_SOURCE=700 -Wall -Wextra -pedantic $(CFLAGS) -Idist -o $@ $(filter %.c,$^) dist/libin656.a
 
 ifeq ($(MACHINE),x86_64)
@@ -76,32 +91,42 @@ try:
 endif
 
 install: all
-	$(INSTALL) -d $(DESTDIR)$(BINDIR) $(DESTDIR)$(LIBDIR)/pkgconfig $(DESTDIR)$(INCLUDEDIR) $(DESTDIR)$(MANDIR)/man1 $(DESTDIR)$(MANDIR)/man3
-	$(INSTALL) -m 755 dist/listing dist/scenes $(DESTDIR)$(BINDIR)
-	$(INSTALL) -m 644 dist/libin656.a $(DESTDIR)$(LIBDIR)
-	if [ -f dist/$(SONAME) ]; then $(INSTALL) -m 755 dist/$(SONAME) $(DESTDIR)$(LIBDIR) && ln -sf $(SONAME) $(DESTDIR)$(LIBDIR)/libin656.so; fi
-	$(INSTALL) -m 644 include/in656.h $(DESTDIR)$(INCLUDEDIR)
-	$(call PC,$(PREFIX),$(LIBDIR),$(INCLUDEDIR)) > $(DESTDIR)$(LIBDIR)/pkgconfig/in656.pc
-	$(INSTALL) -m 644 man/listing.1 man/scenes.1 $(DESTDIR)$(MANDIR)/man1
-	$(INSTALL) -m 644 man/in656.3 $(DESTDIR)$(MANDIR)/man3
+	@$(INSTALL) -d "$(DESTDIR)$(BINDIR)" "$(DESTDIR)$(INCLUDEDIR)" "$(DESTDIR)$(LIBDIR)/pkgconfig" "$(DESTDIR)$(MANDIR)/man1" "$(DESTDIR)$(MANDIR)/man3"
+	@$(INSTALL) -m 755 dist/listing dist/scenes "$(DESTDIR)$(BINDIR)"
+	@$(INSTALL) -m 644 dist/libin656.a "$(DESTDIR)$(LIBDIR)"
+	@if [ -f dist/$(SONAME) ]; then $(INSTALL) -m 755 dist/$(SONAME) "$(DESTDIR)$(LIBDIR)" && ln -sf $(SONAME) "$(DESTDIR)$(LIBDIR)/libin656.so"; fi
+	@$(INSTALL) -m 644 include/in656.h "$(DESTDIR)$(INCLUDEDIR)"
+	@$(call PC,$(PREFIX),$(LIBDIR),$(INCLUDEDIR)) > "$(DESTDIR)$(LIBDIR)/pkgconfig/in656.pc"
+	@$(INSTALL) -m 644 man/listing.1 man/scenes.1 "$(DESTDIR)$(MANDIR)/man1"
+	@$(INSTALL) -m 644 man/in656.3 "$(DESTDIR)$(MANDIR)/man3"
+	@echo "installed: $(DESTDIR)$(LIBDIR)/libin656.a, $(DESTDIR)$(INCLUDEDIR)/in656.h, the programs and the manual"
 
-list: dist/listing
-	@tools/run dist/listing < $(IN)
+input:
+	@tools/input "$$IN"
 
-scene: dist/scenes
-	@tools/run dist/scenes < $(IN)
+list: input dist/listing
+	@tools/run dist/listing < "$$IN"
+
+scene: input dist/scenes
+	@tools/run dist/scenes < "$$IN"
 
 demo: $(ENDS)
+	$(call need,cargo)
 	@$(HOST) --bin demo '$(LINE)' '$(SEED)' '$(SECONDS)' dist/scenes
 
 soak: $(ARCHIVE)
+	$(call need,cargo)
 	@$(HOST) --release --bin compare $$((100 * $(FACTOR)))
 
 bench: $(ARCHIVE)
+	$(call need,cargo)
 	@$(HOST) --release --bin bench
 
 check:
 	.ci/run
+
+help:
+	@sed -n 's/^# \(make.*\)/\1/p' Makefile
 
 clean:
 	rm -rf dist target host/target

@@ -3,10 +3,10 @@
  *
  *   bench DEVICE [RECORD]...
  *
- * DEVICE is a serial device, or - for a pseudo-terminal of its own. Each RECORD is sent when the one before it is done with,
- * as "r B" (asks for train data), "t t" (asks for what waits), "G 288" (fault code), "F 7123" (position), "c T" (lamps on).
- * Behind the last RECORD the bench ends, and fails unless each was answered. Without one it sends the rows that are
- * typed, polls when T0 runs out (001 section 3.2.1), and runs until it is interrupted or the line is gone.
+ * DEVICE is a serial device, or - for a pseudo-terminal of its own. The RECORDs are sent one after the other, as
+ * "r B" (asks for train data), "t t" (asks for what waits), "G 288" (fault code), "F 7123" (position), "c T" (lamps on).
+ * After the last RECORD the bench ends, and fails unless each was answered. Without a RECORD it sends the rows that you
+ * type, polls when T0 runs out (001 section 3.2.1), and runs until it is interrupted or the line is gone.
  * The first answer after a giving up may be an old one (docs/DEMAND3.md).
  */
 #include "serial.h"
@@ -35,7 +35,7 @@ static uint32_t master_ms(const struct bench *bench)
   return clock_ms() - bench->sending;
 }
 
-/* Sends what a call wrote. 0, or -1 where the line is gone. */
+/* Sends what a call wrote. 0, or -1 if the line is gone. */
 static int send_out(struct bench *bench, size_t length)
 {
   uint32_t from = clock_ms();
@@ -44,7 +44,7 @@ static int send_out(struct bench *bench, size_t length)
   return failed;
 }
 
-/* Does what a call of the master answered, which heard so many bytes: says it, and sends what it wrote. 0, or -1 where the line is gone. */
+/* Says what a call of the master answered, and sends what it wrote; heard is the length of the telegram that it heard, or 0. 0, or -1 if the line is gone. */
 static int done(struct bench *bench, in656_result r, size_t heard)
 {
   char text[SHOWN];
@@ -74,7 +74,7 @@ static int offer(struct bench *bench, const char *row)
 {
   in656_result r;
   if (!record_said(row, bench->record)) {
-    show_line(day_ms(), WHO, "typed", "no record: type as t t");
+    show_line(day_ms(), WHO, "typed", "no record: type it as t t");
     bench->failures++;
     return 0;
   }
@@ -94,7 +94,7 @@ static int hear(struct bench *bench, size_t length)
   return done(bench, r, length);
 }
 
-/* Runs until the rows are done with (0), or the line is gone (-1, with errno). */
+/* Runs until each row was sent and ended (0), or the line is gone (-1, with errno). */
 static int run(struct bench *bench, char **rows, int count)
 {
   struct row row = {"", 0};

@@ -1,4 +1,4 @@
-/* Figure 4.8 of IN 656 with both ends in one program: t of the master fetches the train data that waits on the desk. */
+/* exchange.c: figure 4.8 of IN 656 with both ends in one program: the master asks with t and gets the train data that waits in the desk. */
 #include <stdio.h>
 #include <string.h>
 #include "in656.h"
@@ -20,7 +20,7 @@ static unsigned long value(size_t i) {
   return (unsigned long)at[0] << 24 | (unsigned long)at[1] << 16 | (unsigned long)at[2] << 8 | at[3];
 }
 
-/* Takes what a call sent from the output to the line, and shows it without LF and CR. */
+/* Copies what a call sent from the output to the line, and shows it without LF and CR. */
 static size_t sent(const char *end, in656_result r) {
   if (r.written < 2) return 0;
   memcpy(frame, out, (size_t)r.written);
@@ -34,9 +34,10 @@ static int refused(in656_result r) {
   return r.refusal != IN656_OK;
 }
 
-int main(void) {
+int main(int argc, char **argv) {
   in656_result r;
   size_t n;
+  if (argc != 1) return fprintf(stderr, "usage: %s\n", argv[0]), 2;
   if (refused(in656_desk_start(desk, sizeof desk, IN656_LINE_ATC_TC))) return 1;
   if (refused(in656_master_start(master, sizeof master, IN656_LINE_ATC_TC, 0))) return 1;
 

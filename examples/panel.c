@@ -23,14 +23,14 @@ struct panel {
   uint8_t desk[IN656_DESK_LENGTH];
 };
 
-/* Train data is set for r and waits for t. The desk looks at it and refuses what it cannot send. */
+/* Takes train data from the keyboard: sets it for r and queues it for t. The desk refuses what it cannot send. */
 static void take_row(struct panel *panel, const char *row)
 {
   uint8_t record[IN656_RECORD_LENGTH];
   char text[SHOWN];
   in656_result r;
   if (!record_said(row, record)) {
-    show_line(day_ms(), WHO, "typed", "no record: type as B 125 90 120 88");
+    show_line(day_ms(), WHO, "typed", "no record: type it as B 125 90 120 88");
     return;
   }
   r = in656_desk_set(panel->desk, sizeof panel->desk, record, sizeof record);
@@ -57,7 +57,7 @@ static void take_record(const uint8_t record[IN656_RECORD_LENGTH])
   show_line(day_ms(), WHO, "shows", text);
 }
 
-/* Hears a telegram and sends the answer. 0, or -1 where the line is gone. */
+/* Hears a telegram and sends the answer. 0, or -1 if the line is gone. */
 static int hear(struct panel *panel, size_t length)
 {
   uint32_t now = clock_ms();
@@ -77,7 +77,7 @@ static int hear(struct panel *panel, size_t length)
   return 0;
 }
 
-/* Runs until the line is gone, and says why by errno. */
+/* Runs until the line is gone; errno says why. */
 static void run(struct panel *panel)
 {
   struct row row = {"", 0};

@@ -2,9 +2,9 @@
 #include <in656.h>
 #include <stdio.h>
 
-int main(void)
-{
+int main(int argc, char **argv) {
   uint8_t frame[IN656_LONGEST + 1], record[IN656_RECORD_LENGTH];
+  if (argc != 1) return fprintf(stderr, "usage: %s < TELEGRAM\n", argv[0]), 2;
   size_t length = fread(frame, 1, sizeof frame, stdin);
   in656_result r = in656_read(IN656_LINE_MSR3_TC, frame, length, record, sizeof record);
   if (r.refusal == IN656_OK)

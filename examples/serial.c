@@ -11,8 +11,8 @@
 #include <unistd.h>
 
 /*
- * 1200 baud, 8 data bits, odd parity, 1 stop bit (001 section 10.2). PARMRK marks a byte with an error, so that it can be told from any other.
- * 0, 1 where the device has no parity, or -1 with errno.
+ * 1200 baud, 8 data bits, odd parity, 1 stop bit (001 section 10.2). PARMRK marks a byte that came with an error.
+ * 0; 1 if the device has no parity; -1 with errno.
  */
 static int set_line(int fd)
 {
@@ -27,7 +27,7 @@ static int set_line(int fd)
   set.c_cc[VTIME] = 0;
   if (cfsetispeed(&set, B1200) != 0 || cfsetospeed(&set, B1200) != 0)
     return -1;
-  /* tcsetattr is content when it set anything, and may answer EINVAL when it had nothing left to set: what counts is what is set now */
+  /* tcsetattr succeeds if it could set anything, and may answer EINVAL if there was nothing left to set: so look at what is set now */
   if ((tcsetattr(fd, TCSAFLUSH, &set) != 0 && errno != EINVAL) || tcgetattr(fd, &set) != 0)
     return -1;
   if (cfgetispeed(&set) != B1200 || cfgetospeed(&set) != B1200 || (set.c_iflag & PARMRK) == 0) {
@@ -94,7 +94,7 @@ int serial_send(struct serial *line, const uint8_t *bytes, size_t length)
   return tcdrain(line->fd);
 }
 
-/* A marked byte is FF 00 and the byte, and a byte FF is FF FF (termios, PARMRK). The first is a hit. */
+/* With PARMRK (termios) a byte that came with an error is FF 00 and the byte: a hit. A good byte FF is FF FF. */
 size_t serial_byte(struct serial *line, uint8_t byte)
 {
   int marked = line->marked;

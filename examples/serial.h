@@ -13,17 +13,17 @@ struct serial {
 
 /*
  * Opens a device by its name. "-" opens a pseudo-terminal and says the name of its far end, for the other program.
- * 0, or -1 when it has said on standard error what failed.
+ * 0; or -1, and then standard error says what failed.
  */
 int serial_open(struct serial *line, const char *name);
 
 /* Sends bytes and waits until the last one is sent. 0, or -1 with errno. */
 int serial_send(struct serial *line, const uint8_t *bytes, size_t length);
 
-/* Takes one byte as the device gives it: the length of the telegram that it ends, or 0. */
+/* Takes one byte as the device gives it. Answers the length of the telegram that it ends, or 0. */
 size_t serial_byte(struct serial *line, uint8_t byte);
 
-/* Takes the bytes that are there up to the end of a telegram: 1 with its length, 0 where none ends, -1 with errno where the line is gone. */
+/* Takes the bytes that have come, up to the end of a telegram: 1 with its length, 0 if no telegram ended, -1 with errno if the line is gone. */
 int serial_hear(struct serial *line, size_t *length);
 
 /* The telegram that ended last, until the next byte is taken. */
@@ -35,13 +35,13 @@ struct row {
   size_t length;
 };
 
-/* Takes a character of the keyboard: 1 where it ends a row, which stands in text until the next one, 0 where not, -1 at the end of input. */
+/* Takes a character from the keyboard: 1 if it ends a row, which then stands in text until the next one; else 0; -1 at the end of input. */
 int row_typed(struct row *row, int fd);
 
 /* The milliseconds since midnight, for what is printed. */
 uint32_t day_ms(void);
 
-/* The milliseconds of a clock that nobody sets; it starts again at zero as the library's times do. */
+/* The milliseconds of a clock that nobody sets. It starts again at zero, as the library's times do. */
 uint32_t clock_ms(void);
 
 #endif

@@ -60,7 +60,7 @@ const char *refusal_words(uint32_t refusal)
 {
   static const char *const words[] = {
     "not refused", "too short", "too long", "no LF", "wrong byte count", "no CR", "wrong checksum", "wrong number",
-    "unknown type", "outside the set", "wrong form", "wrong value", "record may not stand here", "out of range", "no room",
+    "unknown type", "outside the set", "wrong form", "wrong value", "not sent by this end", "out of range", "no room",
     "wrong line or state", "not free", "eight records wait",
   };
   return refusal < sizeof words / sizeof words[0] ? words[refusal] : "unknown refusal";
@@ -72,7 +72,7 @@ static const char *word(const char *const words[], size_t count, uint32_t number
   return number >= 1 && number <= count ? words[number - 1] : "?";
 }
 
-/* What is more to say: why the heard frame was refused, or its record. */
+/* Adds why the heard frame was refused, or its record. */
 static void add_more(char text[SHOWN], uint32_t line, in656_result r, const uint8_t *record)
 {
   size_t length = strlen(text);

@@ -7,12 +7,12 @@
 /* Room for any text below. */
 #define SHOWN 320
 
-/* 1 where the library was built with this header's lengths; else 0, and it says so on standard error. */
+/* 1 if the library was built with this header's lengths; else it says so on standard error and answers 0. */
 int same_edition(void);
 
 /*
  * The record block of a row, as "B 125 90 120 88" or "r B": its type, then its values. A word of digits is its number,
- * any other its characters' codes. 0 where the row says no record; whether the values are permitted is for the library.
+ * any other its characters' codes. 0 if the row is no record. The library decides whether the values are permitted.
  */
 int record_said(const char *row, uint8_t record[IN656_RECORD_LENGTH]);
 

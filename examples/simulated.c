@@ -3,8 +3,8 @@
  *
  *   simulated FATES RECORD...
  *
- * FATES has a character for each sending on the line: . arrives, x is lost, ! has a byte with a parity error; all further
- * ones arrive. Each RECORD is train data that waits in the desk. The master asks with t once more than there are records.
+ * FATES has a character for each sending on the line: . arrives, x is lost, ! has a byte with a parity error. Sendings after
+ * the last character arrive. Each RECORD is train data that waits in the desk. The master asks with t, once more than there are records.
  */
 #include "serial.h"
 #include "show.h"
@@ -24,7 +24,7 @@ struct world {
   int queued, arrived[MOST];
 };
 
-/* Brings a sending to the other end, byte by byte as its device would give them: the length of the telegram that it hears, or 0. */
+/* Brings a sending to the other end, byte by byte, as its device would. Answers the length of the telegram that the other end hears, or 0. */
 static size_t carry(struct world *world, struct serial *to, const uint8_t *bytes, size_t length)
 {
   char fate = *world->fates != '\0' ? *world->fates++ : '.';
@@ -44,7 +44,7 @@ static size_t carry(struct world *world, struct serial *to, const uint8_t *bytes
   return heard;
 }
 
-/* The desk hears a telegram: the length of the answer that the master hears, or 0. */
+/* The desk hears a telegram. Answers the length of the answer that the master hears, or 0. */
 static size_t desk_hears(struct world *world, size_t length)
 {
   uint8_t out[IN656_LONGEST], record[IN656_RECORD_LENGTH];
@@ -59,7 +59,7 @@ static size_t desk_hears(struct world *world, size_t length)
   return carry(world, &world->to_master, out, (size_t)r.written);
 }
 
-/* Counts a record that arrived, by which of those that waited it is. */
+/* Counts a record that arrived: which of the waiting ones it is. */
 static void count(struct world *world, const uint8_t *record)
 {
   int i;

@@ -25,13 +25,13 @@
 struct tried {
   uint32_t start;
   struct serial panel, bench; /* the near ends of the two lines */
-  int said;                   /* what the bench prints, -1 behind its end */
+  int said;                   /* where the bench's output is read, -1 after its end */
   struct row row;             /* a line of it */
-  int answers;                /* telegrams of the panel that came to their end */
+  int answers;                /* telegrams that the panel has sent to their end */
   int arrived;                /* records of train data that the bench says were answered */
 };
 
-/* Starts a program with its device and its records; said is where it prints, or -1. */
+/* Starts a program with its device and its records. It prints to said, or to our own output where said is -1. */
 static pid_t start(const char *program, struct serial *line, char *const records[], int said)
 {
   char *arguments[8] = {(char *)program, ptsname(line->fd)};
@@ -57,7 +57,7 @@ static void wait_for_character(void)
   nanosleep(&character, NULL);
 }
 
-/* Carries a byte that is there from one end to the other. The panel's bytes are lost until its first telegram has ended. */
+/* Carries a byte from one end to the other. The panel's bytes are lost until its first telegram has ended. */
 static void carry(struct tried *tried, struct serial *from, struct serial *to)
 {
   uint8_t byte;
@@ -105,7 +105,7 @@ static void run(struct tried *tried)
   }
 }
 
-/* Ends a program that still runs: whether it had ended well by itself. */
+/* Ends a program if it still runs, and answers whether it had ended well by itself. */
 static int ended_well(pid_t child)
 {
   int status = 1;

@@ -1,10 +1,10 @@
 /*
  * in656.h: telegrams of IN 656 V 1711 (edition 01.02), and both ends of a line.
  *
- * Every function takes every input and ends. Bad input gets a numbered refusal, and then neither the state nor any output is changed.
+ * Every function takes every input and returns. Bad input gets a numbered refusal, and a refused call changes neither the state nor any output.
  * No function keeps a pointer, allocates memory or uses anything but what is lent to it, so calls on different states may run in parallel.
  *
- * A caller owes one thing: each pointer is valid for its length, and the lent parts of one call do not overlap.
+ * The caller must see to one thing: each pointer is valid for its length, and the lent parts of one call do not overlap.
  * Where a length is 0 the pointer may be null.
  */
 #ifndef IN656_H
@@ -22,8 +22,8 @@ extern "C" {
 #define IN656_LINE_ATC_MSR3 2u /* train control unit and cab radio */
 #define IN656_LINE_MSR3_TC 3u  /* cab radio and train computer */
 
-/* Lengths in bytes. The functions of the same names below give them too, so that a program can hold its header to its library. */
-#define IN656_LONGEST 66u         /* the longest telegram, and the room that a call of an end wants */
+/* Lengths in bytes. The functions of the same names below give those of the library, so that a program can check that it has the right header. */
+#define IN656_LONGEST 66u         /* the longest telegram, and the room that a call of an end needs */
 #define IN656_RECORD_LENGTH 64u   /* a record block */
 #define IN656_GATHERER_LENGTH 67u /* a gatherer's state */
 #define IN656_DESK_LENGTH 653u    /* a desk's state */
@@ -31,7 +31,7 @@ extern "C" {
 
 /*
  * A record block: its type letter; ten values of four bytes each, the highest byte first, in the order of its packets,
- * 0 behind the last; 23 bytes for a text, 0 where the record has none.
+ * 0 after the last; 23 bytes for a text, 0 where the record has none.
  * A value of digits is its number, a value of characters their codes (V: the left one times 256 plus the right one).
  */
 #define IN656_RECORD_VALUES 10u
@@ -47,17 +47,17 @@ extern "C" {
 #define IN656_NO_LF 3u            /* the first byte is not LF; place 0 */
 #define IN656_WRONG_COUNT 4u      /* the byte count is not the length less 2; place 1 */
 #define IN656_NO_CR 5u            /* the last byte is not CR; its place */
-#define IN656_WRONG_SUM 6u        /* the checksum is another; place of its first character */
+#define IN656_WRONG_SUM 6u        /* the checksum is wrong; place of its first character */
 #define IN656_WRONG_NUMBER 7u     /* the number is neither 0 nor 1; place 4 */
 #define IN656_UNKNOWN_TYPE 8u     /* no telegram of this type on this line; place 3 */
 #define IN656_OUTSIDE_SET 9u      /* a data byte outside the character set; its place */
-#define IN656_WRONG_FORM 10u      /* the data field has not its form's length or letters; place 5 or that of the letter */
+#define IN656_WRONG_FORM 10u      /* the data field has another length (place 5), or a packet letter is wrong; its place */
 #define IN656_WRONG_VALUE 11u     /* a value that is not permitted; place of its packet's letter */
-#define IN656_WRONG_RECORD 12u    /* a record that may not stand here */
+#define IN656_WRONG_RECORD 12u    /* this end does not send this record on this line (in656_write: neither end does) */
 #define IN656_OUT_OF_RANGE 13u    /* a value, number or key position out of its range */
 #define IN656_NO_ROOM 14u         /* too little room */
 #define IN656_WRONG_STATE 15u     /* no such line, or a state out of its ranges */
-#define IN656_NOT_FREE 16u        /* the master waits on a telegram */
+#define IN656_NOT_FREE 16u        /* the master has not ended its last telegram */
 #define IN656_QUEUE_FULL 17u      /* eight records wait */
 
 /*
@@ -68,7 +68,7 @@ typedef struct in656_result {
   uint32_t refusal;  /* 0, or the call is refused with this number and has changed nothing */
   uint32_t outcome;  /* what the call did: below, by call */
   uint32_t detail;   /* more of the outcome: below, by call */
-  uint32_t contents; /* a refusal of the frame that was heard: it belongs to the frame, and the call itself is not refused */
+  uint32_t contents; /* the refusal of the frame that was heard; the call itself is not refused */
   uint64_t place;    /* the place of the refusal, or of the contents' refusal; of a search, where the telegram begins */
   uint64_t written;  /* how many bytes of the output are written, or how many bytes a telegram has */
   uint32_t number;   /* the telegram's number, 0 or 1 */
@@ -91,9 +91,10 @@ in656_result in656_read(uint32_t line, const uint8_t *frame, size_t frame_length
 in656_result in656_write(uint32_t line, const uint8_t *record, size_t record_length, uint32_t number, uint8_t *out, size_t out_length);
 
 /*
- * Cutting a stream byte by byte. start fills a state. A heard byte, or a hit
- * (a parity or framing error), gives outcome 1 where it ends a telegram: written bytes of it lie in the state from
- * IN656_GATHERER_TELEGRAM_AT on, until the next byte. Refusals: 15 (a state of another length, or out of its ranges).
+ * Cutting a stream byte by byte. start fills a state. byte takes a heard byte, and answers outcome 1 where it ends a telegram:
+ * the telegram has written bytes, which lie in the state from IN656_GATHERER_TELEGRAM_AT on until the next call.
+ * hit says that a byte came with a parity or framing error, and drops the telegram that was being gathered.
+ * Refusals: 15 (a state of another length, or out of its ranges).
  */
 #define IN656_GATHERER_TELEGRAM_AT 1u
 in656_result in656_gatherer_start(uint8_t *state, size_t state_length);
@@ -111,24 +112,24 @@ in656_result in656_next(const uint8_t *bytes, size_t length, size_t from);
 #define IN656_DESK_HANDLED 5u /* hear: handled; detail says where the answer comes from */
 /* detail of a handled telegram */
 #define IN656_FROM_REQUEST 1u   /* the record set for r */
-#define IN656_FROM_QUEUE 2u     /* the oldest record that waited */
-#define IN656_FROM_KEY 3u       /* A with the key position: nothing waited */
+#define IN656_FROM_QUEUE 2u     /* the oldest record of the queue */
+#define IN656_FROM_KEY 3u       /* A with the key position: the queue was empty */
 #define IN656_FROM_PANEL 4u     /* A: the record in the block is for the panel */
 #define IN656_FROM_CONTENTS 5u  /* N with A: the contents are refused; contents and place say why */
-#define IN656_FROM_DIRECTION 6u /* N with A: not a telegram of the master */
+#define IN656_FROM_DIRECTION 6u /* N with A: a telegram that the master does not send */
 #define IN656_FROM_NOTHING 7u   /* N with A: r, and no record is set */
 
 /* Fills a state. Refusals: 15 (no such line, or the state has another length). */
 in656_result in656_desk_start(uint8_t *state, size_t state_length, uint32_t line);
 /* Time passes. lost is 1 where this noted the line lost. Refusals: 15. */
 in656_result in656_desk_tick(uint8_t *state, size_t state_length, uint32_t time);
-/* Puts a record behind those that wait for t. Refusals: 15, 12, 13, 17. */
+/* Puts a record at the end of the queue that answers t. Refusals: 15, 12, 13, 17. */
 in656_result in656_desk_queue(uint8_t *state, size_t state_length, const uint8_t *record, size_t record_length);
 /* Sets the record that answers r. Refusals: 15, 12, 13. */
 in656_result in656_desk_set(uint8_t *state, size_t state_length, const uint8_t *record, size_t record_length);
-/* Sets the key position (A, X or Y on line 3). Refusals: 15, 12, 13. */
+/* Sets the key position (A, X or Y on line 3). Refusals: 15, 12 (on lines 1 and 2), 13. */
 in656_result in656_desk_key(uint8_t *state, size_t state_length, uint32_t key);
-/* Hears a frame and sends the answer to the front of out. record: a block that is filled where the record is for the panel. Refusals: 15, 14 (out under 66 bytes, or the block has another length). */
+/* Hears a frame and writes the answer to the front of out, to be sent at once. record: a block, filled where the record is for the panel. Refusals: 15, 14 (out under 66 bytes, or the block has another length). */
 in656_result in656_desk_hear(uint8_t *state, size_t state_length, uint32_t time, const uint8_t *frame, size_t frame_length, uint8_t *out, size_t out_length, uint8_t *record, size_t record_length);
 
 /* The master, the bench's end. */
@@ -146,18 +147,18 @@ in656_result in656_desk_hear(uint8_t *state, size_t state_length, uint32_t time,
 #define IN656_GIVEN_UP_SILENCE 1u
 #define IN656_GIVEN_UP_REJECTED 2u
 /* detail of an ignored frame */
-#define IN656_IGNORED_FREE 1u         /* no telegram is waited on */
+#define IN656_IGNORED_FREE 1u         /* the master waits on no telegram */
 #define IN656_IGNORED_RUN_OUT 2u      /* T2 has run out */
 #define IN656_IGNORED_CONTENTS 3u     /* refused 1 to 7; contents and place say why */
-#define IN656_IGNORED_OTHER_NUMBER 4u /* the number is another */
+#define IN656_IGNORED_OTHER_NUMBER 4u /* it has the other number */
 
 /* Fills a state. Refusals: 15 (no such line, or the state has another length). */
 in656_result in656_master_start(uint8_t *state, size_t state_length, uint32_t line, uint32_t time);
-/* Offers a record, and sends it. Refusals: 15, 14 (out under 66 bytes), 16, 12, 13. */
+/* Offers a record: writes its telegram to the front of out, to be sent at once. Refusals: 15, 14 (out under 66 bytes), 16, 12, 13. */
 in656_result in656_master_offer(uint8_t *state, size_t state_length, uint32_t time, const uint8_t *record, size_t record_length, uint8_t *out, size_t out_length);
-/* Time passes: sends again, polls, gives up, or nothing. Refusals: 15, 14. */
+/* Time passes: sends again, polls, gives up, or does nothing. Refusals: 15, 14. */
 in656_result in656_master_tick(uint8_t *state, size_t state_length, uint32_t time, uint8_t *out, size_t out_length);
-/* Hears a frame; may send again at once. record: a block that is filled where the frame is an answer that reads as a record. Refusals: 15, 14. */
+/* Hears a frame; may send again at once. record: a block, filled where the frame is an answer that reads as a record. Refusals: 15, 14. */
 in656_result in656_master_hear(uint8_t *state, size_t state_length, uint32_t time, const uint8_t *frame, size_t frame_length, uint8_t *out, size_t out_length, uint8_t *record, size_t record_length);
 
 #ifdef __cplusplus

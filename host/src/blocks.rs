@@ -32,8 +32,8 @@ pub fn record_block(record: &Record) -> Vec<u8> {
     block
 }
 
-/// The record of a block: 12 where the length or the type is another, 13 where a byte stands
-/// that the record does not use.
+/// The record of a block: 12 where the length or the type is wrong, 13 where a byte that the
+/// record does not use is not 0.
 pub fn record_in(block: &[u8]) -> Result<Record, u8> {
     if block.len() != RECORD {
         return Err(12);
@@ -48,7 +48,7 @@ pub fn record_in(block: &[u8]) -> Result<Record, u8> {
     Ok(Record { type_byte, values })
 }
 
-/// The bytes of a block that are not yet taken; 0 behind the last.
+/// The bytes of a block that are not yet taken; 0 after the last.
 struct Rest<'a>(&'a [u8]);
 
 impl<'a> Rest<'a> {
@@ -81,7 +81,7 @@ impl<'a> Rest<'a> {
     }
 }
 
-/// The desk of a block with all places of its queue, none where the bytes are of no desk.
+/// The desk of a block with all places of its queue; none where the bytes make no desk.
 pub fn desk_in(block: &[u8]) -> Option<Desk> {
     if block.len() != DESK {
         return None;
@@ -135,8 +135,8 @@ pub fn blank_places() -> Vec<Record> {
     vec![Record::with(b'A', 0); PLACES]
 }
 
-/// The places behind those that wait keep what they held: as a record leaves each place takes
-/// that of the next, and the last stands twice; a record that is put takes its place.
+/// The places behind the waiting records keep what they held. When a record leaves, each place
+/// takes what the next one holds, so the last stands twice; a queued record overwrites its place.
 pub fn places(before: &[Record], left: bool, desk: &Desk) -> Vec<Record> {
     let mut places = before.to_vec();
     if left {
@@ -149,7 +149,7 @@ pub fn places(before: &[Record], left: bool, desk: &Desk) -> Vec<Record> {
     places
 }
 
-/// The master of a block, none where the bytes are of no master.
+/// The master of a block; none where the bytes make no master.
 pub fn master_in(block: &[u8]) -> Option<Master> {
     if block.len() != MASTER {
         return None;

@@ -21,7 +21,7 @@ pub struct BothEnds<'a> {
 }
 
 impl BothEnds<'_> {
-    /// Two blank states, which are no line's.
+    /// Two blank states, of no line.
     pub fn new(face: &dyn Face) -> BothEnds<'_> {
         BothEnds {
             face,

@@ -1,5 +1,5 @@
-//! Cuts telegrams out of a byte stream, in two ways that the tests hold against each other:
-//! document 01, 'Cutting the stream'.
+//! Cuts telegrams out of a byte stream in two ways, which the tests compare: document 01,
+//! 'Cutting the stream'.
 
 use crate::faults::is_on;
 use crate::reading::{CR, LF, LONGEST};
@@ -53,8 +53,8 @@ impl Cutter {
     }
 }
 
-/// The next telegram in a slice at or behind an offset, with its own offset; a telegram is
-/// where a CR has an LF among the 65 bytes before it and neither LF nor CR between.
+/// The next telegram in a slice at or after an offset, with its own offset. A telegram ends with a
+/// CR and begins with the LF among the 65 bytes before it, with neither LF nor CR between.
 pub fn next_telegram(bytes: &[u8], from: usize) -> Option<(usize, &[u8])> {
     let behind = bytes.get(from..)?;
     for (index, _) in behind.iter().enumerate().filter(|(_, byte)| **byte == CR) {

@@ -81,7 +81,7 @@ fn was_handled(history: &[Item]) -> bool {
     true
 }
 
-/// Where none was given up: answered and handled agree but for perhaps the last handled.
+/// Where none was given up, answered and handled telegrams agree, except perhaps the last handled.
 fn all_answered(history: &[Item]) -> bool {
     let (made, got) = (handled(history), answered(history));
     let given_up = history.iter().any(|item| matches!(item, Item::GivenUp(..)));

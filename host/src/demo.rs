@@ -23,8 +23,7 @@ impl Ends for Bench {
     }
 }
 
-/// How often things are lost or spoiled on the line, of so many, and when it is dead, in
-/// milliseconds.
+/// How many things, of how many, the line loses or spoils, and when it is dead, in milliseconds.
 pub struct Odds {
     pub lost: usize,
     pub spoiled: usize,
@@ -40,8 +39,8 @@ pub const SHOWN: Odds = Odds {
     dead: 30_000..64_000,
 };
 
-/// The line, seed and seconds that three words ask for, or what is wrong with them; the clock
-/// has 32 bits of milliseconds.
+/// The line, seed and seconds that three words ask for, or what is wrong with them. The seconds
+/// fit a clock of 32 bits of milliseconds.
 pub fn asked(line: &str, seed: &str, seconds: &str) -> Result<(u8, u64, u32), String> {
     let number = |word: &str, most: u64| word.parse().ok().filter(|n| (1..=most).contains(n));
     let most = u64::from(u32::MAX / 1_000);
@@ -85,7 +84,7 @@ struct Run<'a, E> {
     sent: usize,
 }
 
-/// Runs both ends on a line for so long from a seed; the time line and the history.
+/// Runs both ends on a line, from a seed, for some milliseconds: the time line and the history.
 pub fn run<E: Ends>(
     ends: &mut E,
     odds: &Odds,

@@ -36,7 +36,7 @@ pub enum Heard {
 }
 
 /// The desk's state. `queued` is a count of its own, so that a script can put it out of its
-/// range; records behind so many are not looked at, and a missing one is no record.
+/// range; records behind that count are not looked at, and a missing one is no record.
 #[derive(Debug, Clone)]
 pub struct Desk {
     pub line: u8,

@@ -5,7 +5,7 @@ use crate::making::{framed, noise, of_form};
 use crate::random::Random;
 use crate::reading::form_of;
 
-/// The types the master of a line offers, the often sent ones more than once.
+/// The types that the master of a line offers; those that it sends often stand here more than once.
 fn offered(line: u8) -> &'static [u8] {
     match line {
         1 => b"FFFFGGGcrrrttt",
@@ -82,8 +82,8 @@ fn send(random: &mut Random, bytes: &mut Vec<u8>, telegram: &[u8]) -> Arrival {
     arrival
 }
 
-/// The captured bytes of an exchange of at least so many telegrams, without the line digit;
-/// each number is offered up to three times, and given up the number becomes 0.
+/// The captured bytes of an exchange of at least this many telegrams, without the line digit. A
+/// telegram is sent up to three times; after a giving up the number becomes 0.
 pub fn exchange(random: &mut Random, line: u8, telegrams: usize) -> Vec<u8> {
     let mut bytes = Vec::new();
     let mut sendings = 0;

@@ -65,7 +65,7 @@ pub trait Face: Sync {
 }
 
 impl<'a> Call<'a> {
-    /// The name of the header's function, without what all of them begin with.
+    /// The name of the header's function, without `in656_`.
     pub fn name(&self) -> &'static str {
         match self {
             Call::Read(..) => "read",

@@ -1,6 +1,5 @@
-//! Deliberate faults of the second version, one switched on by the environment variable
-//! HOST_FAULT: a comparison that does not see it is worth nothing. Most are document 01's
-//! 'Readings that look right'.
+//! Deliberate faults of the second version. The environment variable HOST_FAULT switches one on,
+//! and the comparison must find it. Most are from document 01, 'Readings that look right'.
 
 use std::sync::OnceLock;
 

@@ -2,6 +2,7 @@
 //! alone, and of the C face, written from its header; with makers of telegrams, captures, scripts
 //! and calls to try the project's programs and its library with.
 
+pub mod arguments;
 pub mod blocks;
 pub mod both;
 pub mod clock;

@@ -1,5 +1,5 @@
 //! The library's own functions, declared from `include/in656.h`. The header asks one thing of a
-//! caller, that each pointer is valid for its length and no lent parts overlap; slices keep it.
+//! caller: each pointer is valid for its length, and no lent parts overlap. Slices see to that.
 
 use crate::face::{Answer, Call, Face, Lengths};
 

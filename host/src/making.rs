@@ -223,7 +223,7 @@ pub fn noise(random: &mut Random, length: usize) -> Vec<u8> {
     (0..length).map(draw).collect()
 }
 
-/// A capture of the line digit and then so many bytes: telegrams of the line, valid and
+/// A capture of the line digit and then this many bytes: telegrams of the line, valid and
 /// damaged, at times of another line, with noise between; the last may be cut short.
 pub fn capture(random: &mut Random, line: u8, length: usize) -> Vec<u8> {
     let mut bytes = vec![b'0'.wrapping_add(line)];
@@ -247,8 +247,8 @@ pub fn capture(random: &mut Random, line: u8, length: usize) -> Vec<u8> {
     bytes
 }
 
-/// The next bytes of a capture for timing: quiet is mostly bytes outside telegrams, busy is
-/// telegrams.
+/// The next bytes of a capture for timing: mostly bytes outside telegrams in a quiet one,
+/// telegrams in a busy one.
 pub fn piece(random: &mut Random, line: u8, busy: bool) -> Vec<u8> {
     if !busy {
         let length = random.from_to(2000, 6000);

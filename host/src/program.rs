@@ -6,7 +6,7 @@ use std::io::{BufRead, BufReader, Result, Write};
 use std::path::Path;
 use std::process::{Child, ChildStdin, ChildStdout, Command, Stdio};
 
-/// The running program; it ends when this is dropped, as its input ends then.
+/// The running program; it ends when this is dropped, because its input ends then.
 pub struct Program {
     child: Child,
     input: Option<ChildStdin>,
@@ -41,6 +41,7 @@ pub fn said(name: &str, input: &str) -> String {
 impl Program {
     /// Starts the program at a path.
     pub fn start(path: impl AsRef<OsStr>) -> Result<Program> {
+        std::fs::metadata(path.as_ref())?;
         let mut child = command(path)
             .stdin(Stdio::piped())
             .stdout(Stdio::piped())

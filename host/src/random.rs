@@ -31,7 +31,7 @@ impl Random {
         first + self.below(last.saturating_sub(first) + 1)
     }
 
-    /// True once in so many draws.
+    /// True once in this many draws, on average.
     pub fn one_in(&mut self, draws: usize) -> bool {
         self.below(draws) == 0
     }

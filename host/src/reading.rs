@@ -43,7 +43,7 @@ const fn form(lines: &'static str, type_byte: u8, packets: &'static str) -> Form
     }
 }
 
-/// The table of forms, with a row for each line on which the permitted values are others.
+/// The table of forms; a form has a row of its own for each line that permits other values.
 pub const FORMS: &[Form] = &[
     form("12", b'A', "A=*"),
     form("3", b'A', "A=A|X|Y"),
@@ -107,7 +107,7 @@ pub fn value_length(patterns: &str) -> usize {
     patterns.split('|').next().map_or(0, str::len)
 }
 
-/// The characters a class of a pattern stands for, or none where it stands for itself.
+/// The characters that a class of a pattern stands for; none where a character stands for itself.
 pub fn members(class: u8) -> Option<&'static str> {
     let row = CLASSES.iter().find(|(name, _)| *name == class)?;
     Some(row.1)

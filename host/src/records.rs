@@ -21,8 +21,8 @@ pub fn data_type(line: u8) -> Option<u8> {
     DATA.get(usize::from(line).wrapping_sub(1)).copied()
 }
 
-/// A type and its values: the number that digits say, or the codes of characters, the
-/// second of two below the first.
+/// A type and its values: the number that digits say, or the codes of characters; of two
+/// characters the first has the higher byte.
 #[derive(Debug, Clone, PartialEq, Eq)]
 pub struct Record {
     pub type_byte: u8,
@@ -42,7 +42,7 @@ fn lead(patterns: &str) -> &str {
     }
 }
 
-/// The characters of a value, where it has no more than the patterns hold.
+/// The characters of a value, unless it has more than the patterns have.
 fn text(patterns: &str, value: u32) -> Option<Vec<u8>> {
     let lead = lead(patterns);
     let width = value_length(patterns) - lead.len();

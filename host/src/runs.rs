@@ -36,8 +36,8 @@ struct Run<'a> {
     history: Vec<Item>,
 }
 
-/// The line's nature in a run: of a hundred things so many are lost and so many spoiled, and
-/// the clock makes long steps or short ones, or jumps.
+/// The line of a run: how many of a hundred things it loses and how many it spoils, and whether
+/// the clock makes long steps, short ones or jumps.
 struct Nature {
     lost: usize,
     spoiled: usize,
@@ -153,7 +153,7 @@ impl Run<'_> {
         } else {
             Call::MasterHear(self.now, &bytes)
         };
-        // a hearing without room is refused 14, and what it was to hear is lost
+        // a hearing without room is refused 14, and what it should have heard is lost
         if self.random.one_in(50) {
             assert_eq!(self.ends.cramped(call, flight.to_desk).refusal, 14);
             if flight.to_desk {
@@ -232,7 +232,7 @@ fn judged(history: &[Item], seed: u64) -> bool {
     supposed
 }
 
-/// Judges so many runs of a chunk, and counts what happened in them.
+/// Judges a number of runs of a chunk, and counts what happened in them.
 pub fn judge_runs(face: &dyn Face, size: Size) -> Tally {
     in_chunks(size, |chunk| {
         let mut tally = Tally::new();

@@ -15,7 +15,7 @@ pub struct Bench {
     pub master_sent: Vec<u8>,
 }
 
-/// The words of a row, each as what a call takes it for.
+/// The words of a row, as a call takes them.
 pub struct Row<'a> {
     pub text: &'a str,
 }
@@ -172,7 +172,7 @@ impl Bench {
         text
     }
 
-    /// Says a row again, makes its call and says what came; a row that names none is only said.
+    /// Repeats a row, makes its call and says what came of it; a row that names no call is only repeated.
     pub fn row(&mut self, text: &str) -> String {
         let row = Row { text };
         let came = match row.word(0) {

@@ -13,7 +13,7 @@ pub const STEPS: [u32; 12] = [
     0, 7, 90, 400, 1_999, 2_000, 2_001, 19_999, 20_000, 27_999, 28_000, 40_000,
 ];
 
-/// Where a clock is set to: zero, anywhere, or shortly before it starts again.
+/// What a clock is set to: zero, any time, or shortly before it starts again at zero.
 pub const CLOCKS: [u32; 4] = [0, 1_000_000, 4_294_960_000, u32::MAX];
 
 /// A script in the making, and the bench that has run it so far.
@@ -24,7 +24,7 @@ struct Maker<'a> {
     rows: String,
 }
 
-/// A script of so many rows, from a start on a line.
+/// A script of this many rows, from a start on a line.
 pub fn script(random: &mut Random, line: u8, rows: usize) -> String {
     let now = CLOCKS[random.below(CLOCKS.len())];
     let mut maker = Maker {
@@ -53,7 +53,7 @@ impl Maker<'_> {
         self.say(format!("master start {line} {now}"));
     }
 
-    /// Enough room, all but always.
+    /// Nearly always enough room.
     fn room(&mut self) -> usize {
         match self.random.below(25) {
             0 => self.random.below(66),
@@ -119,8 +119,8 @@ impl Maker<'_> {
         in_row(bytes.get(..bytes.len().min(200)).unwrap_or(&bytes))
     }
 
-    /// A number put into a state: out of its range, or one that the state allows. A count of
-    /// more records than there are is put right again, as no one says what they would be.
+    /// A number put into a state, in its range or out of it. A count of more records than there
+    /// are is put right again, since no rule says which records those would be.
     fn alter(&mut self) -> String {
         let queued = self.bench.desk.queued;
         match self.random.below(9) {

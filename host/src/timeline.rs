@@ -32,7 +32,7 @@ pub fn readable(line: u8, frame: &str) -> String {
     }
 }
 
-/// In words where an answer comes from.
+/// Where an answer comes from, in words.
 pub fn in_words(source: &str) -> &str {
     match source.split(' ').next() {
         Some("requested") => "the record set for r",

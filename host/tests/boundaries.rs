@@ -24,8 +24,8 @@ fn laid_across() -> Vec<Vec<u8>> {
     ]
 }
 
-/// A capture with a telegram laid so many bytes before or behind each of four boundaries,
-/// counted without the digit; the counts with it are those of one byte more.
+/// A capture with a telegram laid this many bytes before or after each of four boundaries. The
+/// digit does not count; counting it is the same as one byte more.
 fn across(fill: &[u8], telegram: &[u8], shift: isize) -> Vec<u8> {
     let mut bytes = fill.to_vec();
     for boundary in [PIECE, 2 * PIECE, 3 * PIECE, 4 * PIECE] {
@@ -47,7 +47,7 @@ fn telegrams_across_boundaries_in_quiet() {
     }
 }
 
-/// Bytes that are quiet but for random stretches about each multiple of 8,192.
+/// Quiet bytes with random stretches around each multiple of 8,192.
 fn sparse(seed: u64, length: usize) -> Vec<u8> {
     let mut random = Random::seeded(seed);
     let mut bytes = vec![b'x'; length];

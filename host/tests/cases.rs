@@ -21,8 +21,8 @@ fn cases() -> Vec<Vec<String>> {
         .collect()
 }
 
-/// The name and the expectation of each row that a program said, where none differs from what
-/// came and the last row counts them.
+/// The name and the expectation of each row that a program printed. Checks that no row differs from
+/// what came, and that the last row has their number.
 fn agreed(said: &str) -> Vec<(String, String)> {
     let (rows, count) = said.trim_end().rsplit_once('\n').expect("rows and a count");
     let rows: Vec<_> = rows
@@ -126,7 +126,7 @@ fn the_second_version_expects_the_same() {
     }
 }
 
-/// A row that expects something else than comes has the mark, and is counted.
+/// A row that expects something other than what comes is marked and counted.
 #[test]
 fn a_wrong_expectation_is_marked() {
     let script = "\

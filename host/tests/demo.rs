@@ -34,7 +34,7 @@ fn kept_exchange() {
     }
 }
 
-/// What the demonstration asks for: other lines, no time and words are refused with status 2.
+/// What the demonstration takes: another line, no time and words are refused with status 2.
 #[test]
 fn asked_for() {
     assert_eq!(asked("3", "0", "1"), Ok((3, 0, 1)));
@@ -135,7 +135,7 @@ fn letters(history: &[Item]) -> String {
     judge(history).iter().map(letter).collect()
 }
 
-/// Histories that break a sentence each.
+/// Histories, each of which breaks one sentence.
 #[test]
 fn judge_sees() {
     use Item::*;

@@ -1,5 +1,5 @@
 //! The C examples, built against the header and the library by the machine's own compilers.
-//! What the machine lacks is said in one line, and a test that needs it then ends well.
+//! Where the machine lacks something a test says so in one line and passes.
 
 mod machine;
 
@@ -28,7 +28,7 @@ fn library() -> Option<PathBuf> {
     Some(path)
 }
 
-/// Compiles sources of examples/ without a warning; what else the compiler is told stands last.
+/// Compiles sources of examples/ without a warning; further arguments of the compiler stand last.
 fn compile(compiler: &[&str], sources: &[&str], rest: &[&Path]) {
     let built = Command::new(compiler[0])
         .args(&compiler[1..])
@@ -141,26 +141,6 @@ fn exchange_fetches_the_train_data() {
     assert!(output.status.success());
 }
 
-/// The README and the manual show examples/read.c as it is.
-#[test]
-fn the_readme_and_the_manual_have_the_example() {
-    let source = text("examples/read.c");
-    let code: Vec<&str> = source.lines().skip(1).collect();
-    let indented: Vec<String> = code
-        .iter()
-        .map(|line| {
-            if line.is_empty() {
-                String::new()
-            } else {
-                format!("    {line}")
-            }
-        })
-        .collect();
-    assert!(text("README.md").contains(&indented.join("\n")));
-    let page = text("man/in656.3").replace("\\-", "-").replace("\\e", "\\");
-    assert!(page.contains(&code.join("\n")));
-}
-
 /// The answer is lost on the way: the telegram is sent again, the desk repeats its answer, and the record arrives once.
 #[test]
 fn a_lost_answer_and_the_record_arrives_once() {
@@ -232,7 +212,35 @@ fn the_panel_and_the_bench_talk() {
     assert_eq!(said.matches("shows  fault code 288").count(), 1, "{said}");
 }
 
-/// A bench without an answer gives up, says so, and fails; a device that is none is an error.
+/// Each example says on standard error how it is called, and ends with status 2.
+#[test]
+fn each_example_says_how_it_is_called() {
+    for (name, shares, words, usage) in [
+        ("read", false, "x", " < TELEGRAM"),
+        ("exchange", false, "x", ""),
+        ("panel", true, "", " DEVICE [\"B 125 90 120 88\"]..."),
+        ("bench", true, "", " DEVICE [\"t t\"]..."),
+        ("simulated", true, "", " FATES \"B 125 90 120 88\"..."),
+        ("try", true, "x", " PANEL BENCH"),
+    ] {
+        let source = format!("{name}.c");
+        let Some(program) = build(&C99, &format!("{name}-usage"), &source, shares) else {
+            continue;
+        };
+        let output = run(
+            &program,
+            words.split_whitespace().collect::<Vec<_>>().as_slice(),
+            b"",
+        );
+        let line = String::from_utf8_lossy(&output.stderr).into_owned();
+        assert!(line.starts_with("usage: "), "{line}");
+        assert!(line.ends_with(&format!("{usage}\n")), "{line}");
+        assert_eq!(output.status.code(), Some(2), "{name}");
+        assert_eq!(said(&output), "");
+    }
+}
+
+/// A bench without an answer gives up, says so, and fails; so does one on a file that is no serial device.
 #[test]
 fn the_bench_fails_without_an_answer() {
     let Some(bench) = build(&C99, "bench-alone", "bench.c", true) else {
@@ -251,7 +259,7 @@ fn the_bench_fails_without_an_answer() {
             "{said}"
         );
         assert_eq!(
-            said.matches("record may not stand here").count(),
+            said.matches("call refused: not sent by this end").count(),
             2,
             "{said}"
         );

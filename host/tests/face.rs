@@ -1,4 +1,4 @@
-//! The compiled library held against the second version through its C face, on fixed seeds:
+//! Compares the compiled library with the second version through the C face, from fixed seeds:
 //! `include/in656.h` and document 01. Where the library is not linked each test says so.
 
 use host::comparing::{compare, figures, Tally, GATE};
@@ -10,7 +10,7 @@ use std::io::Write;
 use std::process::{Command, Output};
 use std::time::Instant;
 
-/// Says something past the test's captured output, so that the gate shows it.
+/// Says something past the test runner, which hides what a passed test prints, so that the gate shows it.
 fn say(text: &str) {
     let _ = writeln!(std::io::stderr(), "{text}");
 }
@@ -33,7 +33,7 @@ fn part(name: &str, run: impl FnOnce(&dyn Face) -> Tally) -> Option<Tally> {
     Some(tally)
 }
 
-/// Holds that a call was refused with each of these numbers.
+/// Checks that a call was refused with each of these numbers.
 fn refused(tally: &Tally, call: &str, numbers: impl IntoIterator<Item = u32>) {
     for number in numbers {
         let occurs = |told: &&(&str, u32, u32, u32, u32)| told.0 == call && told.1 == number;
@@ -44,7 +44,7 @@ fn refused(tally: &Tally, call: &str, numbers: impl IntoIterator<Item = u32>) {
     }
 }
 
-/// Holds that a call told each of these outcomes with each of its details.
+/// Checks that a call told each of these outcomes with each of its details.
 fn reached(tally: &Tally, call: &str, outcome: u32, details: impl IntoIterator<Item = u32>) {
     for detail in details {
         let told = |lost| tally.get(&(call, 0, outcome, detail, lost)).copied();
@@ -144,14 +144,14 @@ fn runs_judged() {
     }
 }
 
-/// What the comparing program says: with a fault switched on, and of more words.
+/// What the program `compare` says with a fault switched on.
 fn compared(fault: &str, words: &[&str]) -> Output {
     let mut program = Command::new(env!("CARGO_BIN_EXE_compare"));
     program.args(words).env("HOST_FAULT", fault);
     program.output().expect("the program runs")
 }
 
-/// Holds that a fault is found, and said to be a difference of this kind.
+/// Checks that a fault is found, and is said to be a difference of this kind.
 fn found(fault: &str, words: &[&str], kind: &str) {
     let output = compared(fault, words);
     let said = String::from_utf8_lossy(&output.stderr);
@@ -180,7 +180,7 @@ fn fault_judged() {
     found("queue popped on a repeat", &words, broken);
 }
 
-/// No call reads or writes outside what it is lent, and none looks at a byte that nothing wrote.
+/// No call reads or writes outside what it is lent, and none reads a byte that was never written.
 #[test]
 fn under_valgrind() {
     if linked("under valgrind").is_none() {

@@ -1,4 +1,4 @@
-//! The numbers of `include/in656.h`, each held to what the compiled library answers.
+//! Each number of `include/in656.h` is what the compiled library answers.
 
 use host::blocks::record_block;
 use host::both::BothEnds;

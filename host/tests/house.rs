@@ -1,4 +1,4 @@
-//! The repository itself: its parts, their drawing, and files that a reader can take in.
+//! The repository itself: its parts, their drawing, and the length of its files.
 
 use std::collections::{BTreeMap, BTreeSet};
 use std::path::{Path, PathBuf};
@@ -63,7 +63,7 @@ fn each_crate_has_its_folder() {
     assert_eq!(folders, listed().into_keys().collect());
 }
 
-/// The drawing has a node for each crate, and an edge for each use that no longer way implies.
+/// The drawing has a node for each crate, and an edge for each use that does not follow from other edges.
 #[test]
 fn the_drawing_is_of_crates_txt() {
     let parts = listed();

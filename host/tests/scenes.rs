@@ -12,7 +12,7 @@ fn repository(path: &str) -> PathBuf {
     Path::new(env!("CARGO_MANIFEST_DIR")).join("..").join(path)
 }
 
-/// Holds what the program says of a script against the second version, row by row.
+/// Compares what the program says of a script with the second version, row by row.
 fn compare(name: &str, script: &str) {
     let (got, want) = (said("scenes", script), run(script));
     let lines = got.lines().zip(want.lines()).enumerate();
@@ -24,7 +24,7 @@ fn compare(name: &str, script: &str) {
     assert_eq!(got.len(), want.len(), "{name}: one says more");
 }
 
-/// The papers' scenes: the second version says what the expectations do.
+/// The scenes of the papers: the second version says what `stdout` expects.
 #[test]
 fn papers_scenes() {
     let read = |path| std::fs::read_to_string(repository(path)).expect("the file is read");
@@ -32,7 +32,7 @@ fn papers_scenes() {
     assert_eq!(run(&script), read("crates/scenes/stdout"));
 }
 
-/// Many scripts from fixed seeds, on each line, and on lines that there are not.
+/// Many scripts from fixed seeds, on each line, and on lines that do not exist.
 #[test]
 fn made_scripts() {
     for seed in 0..60 {

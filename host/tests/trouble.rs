@@ -30,19 +30,19 @@ fn sample() -> Stdio {
         .into()
 }
 
-/// A capture of so many telegrams.
+/// A capture of this many telegrams.
 fn telegrams(count: usize) -> Vec<u8> {
     [b"3".to_vec(), b"\n08A0AAA5\r".repeat(count)].concat()
 }
 
-/// Holds that nothing was printed, that the words were said on standard error, and status 1.
+/// Checks that nothing was printed, that standard error has these words, and that the status is 1.
 fn says(output: &Output, words: &str) {
     assert_eq!(String::from_utf8_lossy(&output.stderr), words);
     assert_eq!(output.status.code(), Some(1));
     assert!(output.stdout.is_empty());
 }
 
-/// Runs the program by a shell that has closed one of its descriptors.
+/// Runs the program from a shell that closes one of its descriptors.
 fn with_closed(redirection: &str) -> Output {
     let run = program();
     Command::new("sh")
@@ -82,7 +82,7 @@ fn output_that_cannot_be_written() {
     );
 }
 
-/// A reader that goes away ends the program by a signal, whose status passes through.
+/// When its reader goes away a signal ends the program, and `tools/run` passes its status on.
 #[test]
 fn reader_that_goes_away() {
     let mut child = program()

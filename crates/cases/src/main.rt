@@ -2,7 +2,12 @@
 mod rows;
 mod runs;
 
+use stdio::input::called_alone;
+
 fn main() {
+    if !called_alone(b"usage: cases < ROWS\n") {
+        return;
+    }
     let mut input = [0u8; 65536];
     let mut out = rows::output();
     rows::run(&mut input, &mut out);

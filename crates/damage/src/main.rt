@@ -2,6 +2,11 @@
 mod rows;
 mod telegrams;
 
+use stdio::input::called_alone;
+
 fn main() {
+    if !called_alone(b"usage: damage\n") {
+        return;
+    }
     rows::run();
 }

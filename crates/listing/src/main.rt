@@ -3,6 +3,7 @@ use captures::lister::Lister;
 use captures::lister::Wants;
 use reading::answers::Writing;
 use stdio::input::Got;
+use stdio::input::called_alone;
 use stdio::input::read_more;
 use stdio::output::complain;
 use stdio::output::write_out;
@@ -53,6 +54,9 @@ fn list_all(buf: &mut [u8], out: &mut [u8]) {
 }
 
 fn main() {
+    if !called_alone(b"usage: listing < CAPTURE\n") {
+        return;
+    }
     let mut buf = [0u8; 131072];
     let mut out = [0u8; 65536];
     list_all(&mut buf, &mut out);

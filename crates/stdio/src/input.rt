@@ -56,3 +56,12 @@ pub fn read_full(buf: &mut [u8], name: &[u8]) -> Got
     }
     Got::Failed
 }
+
+// Whether the program was started without an argument, as all of ours are; else it says on standard error how it is called.
+pub fn called_alone(usage: &[u8]) -> bool {
+    if os::arg_count() <= 1 {
+        return true;
+    }
+    complain(usage);
+    false
+}

@@ -1,6 +1,7 @@
-//! Times the library through its C face beside the second version, on the same inputs and in one
-//! run, and prints a table: document 01 has no section for it.
+//! Times the library, through its C face, and the second version on the same inputs in one run, and
+//! prints a table. Document 01 has no section for it.
 
+use host::arguments::{arguments, stop};
 use host::blocks::{record_block, DESK, GATHERER, RECORD};
 use host::cutting::{telegrams, Cutter, Heard};
 use host::desk::{Desk, ROOM};
@@ -27,12 +28,12 @@ fn seconds(mut work: impl FnMut()) -> f64 {
     from.elapsed().as_secs_f64()
 }
 
-/// Times both by turns, and prints how the library does: things a second, and its time beside the
-/// second version's, the median and the lowest and highest.
+/// Times both in turn, and prints the library's time for one thing and the ratio of its time to the
+/// second version's: the median, the lowest and the highest.
 fn row(what: &str, things: usize, mut one: impl FnMut(), mut other: impl FnMut()) {
     let mut turns: Vec<(f64, f64)> = (0..TURNS)
         .map(|turn| {
-            // each goes first by turns
+            // each goes first in every other turn
             let late = if turn % 2 == 0 {
                 0.0
             } else {
@@ -91,7 +92,7 @@ fn each_telegram(face: &dyn Face) {
     hearing(face, &records);
 }
 
-/// The desk's hearing of telegrams of the master with numbers by turns, every third sent again.
+/// The desk's hearing of the master's telegrams, with numbers 0 and 1 in turn, every third sent again.
 fn hearing(face: &dyn Face, records: &[Record]) {
     let mut heard = Vec::new();
     let mut number = 0;
@@ -196,7 +197,7 @@ fn each_byte(face: &dyn Face, name: &str, bytes: &[u8]) {
     );
 }
 
-/// A capture of so many bytes made of pieces.
+/// A capture of `BYTES` bytes, made of pieces.
 fn made(mut piece: impl FnMut() -> Vec<u8>) -> Vec<u8> {
     let mut bytes = Vec::new();
     while bytes.len() < BYTES {
@@ -207,6 +208,9 @@ fn made(mut piece: impl FnMut() -> Vec<u8>) -> Vec<u8> {
 }
 
 fn main() {
+    if !arguments().is_empty() {
+        stop("usage: bench");
+    }
     let face = match library() {
         Ok(face) => face,
         Err(why) => return println!("skipped: {why}"),

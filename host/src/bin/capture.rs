@@ -1,6 +1,8 @@
-//! Writes a capture of so many MiB, the line digit included, to standard output for timing the
-//! listing program of document 01; quiet is mostly bytes outside telegrams, busy is telegrams.
+//! `capture LINE MIB SEED quiet|busy` writes a capture of MIB mebibytes, the line digit included, to
+//! standard output; the listing program of document 01 is timed with it. A quiet capture has mostly
+//! bytes outside telegrams, a busy one telegram after telegram.
 
+use host::arguments::{arguments, stop};
 use host::making::piece;
 use host::random::Random;
 use std::io::Write;
@@ -8,7 +10,7 @@ use std::process::ExitCode;
 
 const MIB: usize = 1 << 20;
 
-/// Writes the line digit and then pieces until so many bytes are out.
+/// Writes the line digit and then pieces, until all bytes are written.
 fn write_capture(line: u8, mut left: usize, seed: u64, busy: bool) -> std::io::Result<()> {
     let mut random = Random::seeded(seed);
     let mut output = std::io::BufWriter::with_capacity(MIB, std::io::stdout().lock());
@@ -22,10 +24,9 @@ fn write_capture(line: u8, mut left: usize, seed: u64, busy: bool) -> std::io::R
     output.flush()
 }
 
-/// The line, MiB, seed and busyness of the arguments.
-fn arguments() -> Option<(u8, usize, u64, bool)> {
-    let words: Vec<String> = std::env::args().skip(1).collect();
-    let [line, mebibytes, seed, kind] = words.as_slice() else {
+/// The line, the bytes, the seed and whether it is busy, as the arguments say.
+fn asked(words: &[String]) -> Option<(u8, usize, u64, bool)> {
+    let [line, mebibytes, seed, kind] = words else {
         return None;
     };
     let line = line.parse().ok().filter(|line| matches!(line, 1..=3))?;
@@ -39,9 +40,8 @@ fn arguments() -> Option<(u8, usize, u64, bool)> {
 }
 
 fn main() -> ExitCode {
-    let Some((line, length, seed, busy)) = arguments() else {
-        eprintln!("usage: capture LINE MIB SEED quiet|busy");
-        return ExitCode::FAILURE;
+    let Some((line, length, seed, busy)) = asked(&arguments()) else {
+        stop("usage: capture LINE MIB SEED quiet|busy");
     };
     match write_capture(line, length, seed, busy) {
         Ok(()) => ExitCode::SUCCESS,

@@ -1,23 +1,38 @@
-//! Holds the library against the second version, and judges demand 3 on runs of its two ends:
-//! `compare CHUNKS [DIVIDED [itself]]`. 100 chunks are the gate's; more go on from there with
-//! other seeds. With `itself` the second version stands in for the library, so that a fault of
-//! both can be found by the judge only.
+//! `compare [CHUNKS [DIVIDED [itself]]]` compares the library with the second version, and judges
+//! demand 3 on runs of its two ends. The gate compares 100 chunks; further ones have other seeds.
+//! DIVIDED makes every chunk that many times smaller. With `itself` the second version stands in for
+//! the library: a fault that both have is then left to the judge of demand 3 to find.
 
-use host::comparing::{compare, figures, Size, PARTS};
+use host::arguments::{arguments, stop};
+use host::comparing::{compare, figures, Size, GATE, PARTS};
 use host::face::{library, Face};
 use host::runs::judge_runs;
 use host::second::Second;
 use std::time::Instant;
 
-fn main() {
-    let words: Vec<String> = std::env::args().skip(1).collect();
-    let number = |index: usize| words.get(index).and_then(|word| word.parse::<u64>().ok());
+/// How much is to be compared, and whether the second version with itself, as the arguments say.
+fn asked(words: &[String]) -> Option<(Size, bool)> {
+    let number = |index: usize, otherwise| match words.get(index) {
+        Some(word) => word.parse::<u64>().ok().filter(|n| *n > 0),
+        None => Some(otherwise),
+    };
     let size = Size {
-        chunks: number(0).unwrap_or(100),
-        divided: number(1).unwrap_or(1).max(1) as usize,
+        chunks: number(0, GATE.chunks)?,
+        divided: number(1, GATE.divided as u64)? as usize,
+    };
+    match words.get(2..).unwrap_or_default() {
+        [] => Some((size, false)),
+        [word] if word == "itself" => Some((size, true)),
+        _ => None,
+    }
+}
+
+fn main() {
+    let Some((size, itself)) = asked(&arguments()) else {
+        stop("usage: compare [CHUNKS [DIVIDED [itself]]]");
     };
     let face: &dyn Face = match library() {
-        _ if words.get(2).is_some_and(|word| word == "itself") => &Second,
+        _ if itself => &Second,
         Ok(library) => library,
         Err(why) => return println!("skipped: {why}"),
     };

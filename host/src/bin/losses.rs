@@ -1,7 +1,8 @@
 //! What a bad line costs: `losses PROGRAM FILE.svg` runs both ends, as the program `scenes` has
-//! them, over lines that lose and spoil more and more, prints the shares of telegrams by how
-//! they ended, and draws them.
+//! them, over lines that lose and spoil more and more. It prints which share of the telegrams
+//! ended in which way, and draws it.
 
+use host::arguments::{arguments, stop};
 use host::demand::Item;
 use host::demo::{run, Odds};
 use host::program::Program;
@@ -15,8 +16,8 @@ const ENDS: [(&str, &str); 4] = [
     ("given up", "#ca3c25"),
 ];
 
-/// The shares of the four ends on a line where so many things of a hundred are lost and as
-/// many are spoiled.
+/// The shares of the four ends on a line that hits this many things of a hundred: half of them it
+/// loses, half it spoils.
 fn shares(program: &mut Program, percent: usize) -> [f64; 4] {
     let odds = Odds {
         lost: percent,
@@ -78,12 +79,11 @@ fn picture(rows: &[(usize, [f64; 4])]) -> String {
 }
 
 fn main() {
-    let words: Vec<String> = std::env::args().skip(1).collect();
-    let [path, file] = words.as_slice() else {
-        eprintln!("losses PROGRAM FILE.svg");
-        std::process::exit(2);
+    let [path, file] = &arguments()[..] else {
+        stop("usage: losses PROGRAM FILE.svg");
     };
-    let mut program = Program::start(path).expect("the program scenes starts");
+    let mut program =
+        Program::start(path).unwrap_or_else(|why| stop(&format!("losses: {path}: {why}")));
     let percents = (0..=60).step_by(5);
     let rows: Vec<(usize, [f64; 4])> = percents
         .map(|percent| (percent, shares(&mut program, percent)))

@@ -1,6 +1,7 @@
-//! Writes sample captures of the kind a help desk gets into a folder: line1.cap, line2.cap,
-//! line3.cap and noise.cap, each beginning with the line digit of document 01's listing.
+//! `samples FOLDER` writes captures of the kind that a help desk gets into a folder: line1.cap,
+//! line2.cap, line3.cap and noise.cap. Each begins with the line digit of document 01's listing.
 
+use host::arguments::{arguments, stop};
 use host::exchange::exchange;
 use host::making::{any_form, damaged, noise};
 use host::random::Random;
@@ -39,11 +40,10 @@ fn write_samples(folder: &Path) -> std::io::Result<()> {
 }
 
 fn main() -> ExitCode {
-    let Some(folder) = std::env::args_os().nth(1) else {
-        eprintln!("usage: samples FOLDER");
-        return ExitCode::FAILURE;
+    let [folder] = &arguments()[..] else {
+        stop("usage: samples FOLDER");
     };
-    match write_samples(Path::new(&folder)) {
+    match write_samples(Path::new(folder)) {
         Ok(()) => ExitCode::SUCCESS,
         Err(error) => {
             eprintln!("samples: {error}");

@@ -7,7 +7,7 @@ use crate::making::{capture, noise};
 use crate::numbers::TELEGRAM;
 use crate::random::Random;
 
-/// Cuts so many streams in both ways.
+/// Cuts a number of streams in both ways.
 pub fn cut(pair: &mut Pair, seed: u64, items: usize) {
     let mut random = Random::seeded(0x0300_0000 + seed);
     for _ in 0..items {

@@ -33,7 +33,7 @@ enum Way {
     ToMaster,
 }
 
-/// Runs so many sequences of one to 200 calls.
+/// Runs a number of sequences of one to 200 calls.
 pub fn call(pair: &mut Pair, seed: u64, items: usize) {
     let mut random = Random::seeded(0x0400_0000 + seed);
     for _ in 0..items {
@@ -58,7 +58,7 @@ pub fn call(pair: &mut Pair, seed: u64, items: usize) {
 }
 
 impl Sequence<'_, '_> {
-    /// Starts both ends, at times on a line that there is not, and then on their line.
+    /// Starts both ends on their line, at times on a missing line before that.
     fn start(&mut self) {
         if self.random.one_in(20) {
             let line = inputs::line(self.random);
@@ -105,7 +105,7 @@ impl Sequence<'_, '_> {
         let damaged = self.pair.lent(&damaged);
         *self.end(of_desk) = damaged;
         let answer = self.on_an_end(of_desk, false);
-        // a state that no call takes is put right again, and others now and then
+        // a state that every call refuses is put right again; others are now and then
         if answer.refusal == 15 || self.random.one_in(2) {
             *self.end(of_desk) = kept;
         }
@@ -138,7 +138,7 @@ impl Sequence<'_, '_> {
         }
     }
 
-    /// Enough room, all but always.
+    /// Nearly always enough room.
     fn room(&mut self) -> usize {
         match self.random.below(25) {
             0 => self.random.below(ROOM),
@@ -201,7 +201,7 @@ impl Sequence<'_, '_> {
     }
 }
 
-/// Keeps what was sent; whether something was.
+/// Keeps what was sent, and says whether something was.
 fn keep(sent: &mut Vec<u8>, answer: Answer, out: &Lent) -> bool {
     let bytes = out
         .bytes()

@@ -6,7 +6,7 @@ use crate::random::Random;
 use crate::reading::{forms_on, read, CR, LF, SET};
 use crate::records::Record;
 
-/// Mostly a line that there is, at times another number, also one whose lowest byte is a line.
+/// Mostly one of the three lines, at times another number, also one whose lowest byte is a line.
 pub fn line(random: &mut Random) -> u32 {
     match random.below(40) {
         0 => [0, 4, 49, 255, 257, 258, 259, 0x0100_0001, u32::MAX][random.below(9)],
@@ -69,7 +69,7 @@ pub fn frame(random: &mut Random, line: u8, index: usize) -> Vec<u8> {
 /// Numbers next to the limits of what a state may hold.
 const LIMITS: [u8; 12] = [0, 1, 2, 3, 4, 8, 9, 10, 65, 66, 67, 255];
 
-/// Changes one to three bytes, to any byte, to one that is near, or to one next to a limit.
+/// Changes one to three bytes to any byte, to a near one, or to one next to a limit.
 pub fn change(random: &mut Random, bytes: &mut [u8]) {
     for _ in 0..random.from_to(1, 3) {
         let index = random.below(bytes.len());
@@ -96,8 +96,8 @@ pub fn damage(random: &mut Random, state: &[u8]) -> Vec<u8> {
     damaged
 }
 
-/// A record of a type on a line, of any type where none is wanted or the line has none of it,
-/// at times of another line or with a value that may be out of its range.
+/// A record of a type on a line. It is of any type where no type is wanted or the line does not
+/// have it, at times of another line, and at times with a value out of its range.
 pub fn record(random: &mut Random, line: u8, wanted: Option<u8>) -> Record {
     let line = if random.one_in(12) {
         random.from_to(1, 3) as u8

@@ -1,5 +1,5 @@
-//! The library held against the second version: the same calls on the same bytes, and all that a
-//! call answers or may change compared behind each.
+//! Compares the library with the second version: makes the same calls on the same bytes, and after
+//! each call compares all that it answers and all that it may change.
 
 pub mod cuts;
 pub mod ends;
@@ -14,7 +14,8 @@ use std::sync::Mutex;
 /// Bytes behind each lent part, which no call may touch.
 const GUARDS: usize = 16;
 
-/// How much is compared: so many chunks, each divided by a number. 100 whole chunks are the gate's.
+/// How much is compared: a number of chunks, each divided by a number. The gate compares 100 whole
+/// chunks.
 #[derive(Clone, Copy)]
 pub struct Size {
     pub chunks: u64,
@@ -27,8 +28,8 @@ pub const GATE: Size = Size {
     divided: 1,
 };
 
-/// Lent bytes with guards behind them. A divided chunk has none, so that a tool that watches the
-/// memory sees a step behind the end.
+/// Lent bytes with guards behind them. In a divided chunk there are none, so that a tool that
+/// watches the memory notices an access behind the end.
 #[derive(Debug, Clone, PartialEq, Eq)]
 pub struct Lent {
     bytes: Vec<u8>,
@@ -76,7 +77,7 @@ impl Pair<'_> {
         }
     }
 
-    /// Makes a call on both, and holds all that it answers and may change against each other.
+    /// Makes a call on both, and compares all that it answers and all that it may change.
     pub fn call(
         &mut self,
         call: Call,
@@ -108,7 +109,7 @@ impl Pair<'_> {
     }
 }
 
-/// Leaves no chunk to the others where a processor finds a difference.
+/// Leaves the other threads no further chunk where one thread finds a difference.
 struct Stop<'a>(&'a AtomicU64);
 
 impl Drop for Stop<'_> {
@@ -143,7 +144,7 @@ pub fn in_chunks(size: Size, work: impl Fn(u64) -> Tally + Sync) -> Tally {
     sum.into_inner().unwrap_or_else(|held| held.into_inner())
 }
 
-/// A part of the comparison: so many items of a chunk, from a seed.
+/// A part of the comparison: a number of items of a chunk, from a seed.
 pub type Part = fn(&mut Pair, u64, usize);
 
 /// The parts, each with its name and the items of a whole chunk.
@@ -154,7 +155,7 @@ pub const PARTS: [(&str, usize, Part); 4] = [
     ("sequences of calls", 2_000, ends::call),
 ];
 
-/// Holds a part of the library against the second version.
+/// Compares a part of the library with the second version.
 pub fn compare(part: &str, size: Size, library: &dyn Face, second: &dyn Face) -> Tally {
     let known = PARTS.iter().find(|(name, ..)| *name == part);
     let (_, items, run) = *known.expect("a part of the comparison");

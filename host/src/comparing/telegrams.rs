@@ -9,7 +9,7 @@ use crate::random::Random;
 use crate::reading::{forms_on, read as read_telegram, Form};
 use crate::records::Record;
 
-/// Reads so many frames of every kind and of every length up to 80, and this chunk's share of a sweep.
+/// Reads a number of frames of every kind and of every length up to 80, and this chunk's share of a sweep.
 pub fn read(pair: &mut Pair, seed: u64, items: usize) {
     let mut random = Random::seeded(0x0100_0000 + seed);
     if pair.is_whole() {
@@ -38,12 +38,12 @@ fn forms() -> impl Iterator<Item = (u8, &'static Form)> {
     (1..=3).flat_map(|line| forms_on(line).map(move |form| (line, form)))
 }
 
-/// Whether a number of a sweep is this chunk's; the first hundred chunks have all of them.
+/// Whether a number of a sweep belongs to this chunk; the first hundred chunks share out all of them.
 fn is_of(seed: u64, number: u32) -> bool {
     u64::from(number % 100) == seed
 }
 
-/// Reads a telegram of each form with every byte at every place, and the sum right where it can be.
+/// Reads a telegram of each form with every byte at every place; the checksum is made right where that is possible.
 fn every_byte(pair: &mut Pair, seed: u64, random: &mut Random) {
     for byte in (0..=255u8).filter(|byte| is_of(seed, u32::from(*byte))) {
         for (line, form) in forms() {
@@ -101,7 +101,7 @@ fn write_one(pair: &mut Pair, line: u32, block: &[u8], number: u32, room: &[u8])
     pair.call(call, &mut state, &mut out, &mut record);
 }
 
-/// Writes so many records, with every room up to 70, and this chunk's share of a sweep.
+/// Writes a number of records, with every room up to 70, and this chunk's share of a sweep.
 pub fn write(pair: &mut Pair, seed: u64, items: usize) {
     let mut random = Random::seeded(0x0200_0000 + seed);
     if pair.is_whole() {

@@ -33,7 +33,7 @@ fn outcome(outcome: u32) -> Answer {
     }
 }
 
-/// A line that there is; other numbers are no line, however wide they are.
+/// One of the three lines; every other number, however large, is no line.
 fn line_in(line: u32) -> Option<u8> {
     matches!(line, 1..=3).then_some(line as u8)
 }
@@ -44,8 +44,8 @@ fn fill(block: &mut [u8], record: &Record) -> u32 {
     1
 }
 
-/// What a block means to a call that takes a record. 12 comes before 13, so one with a byte that
-/// no value uses is a record out of its range, and one of no type is a record that no end sends.
+/// What a block means to a call that takes a record. A block of no type is a record that no end
+/// sends (12); a block with a byte in an unused place is a record out of its range (13).
 fn meant(block: &[u8]) -> Record {
     record_in(block).unwrap_or_else(|refusal| match (refusal, block) {
         (13, [type_byte, values @ ..]) => Record {
@@ -59,7 +59,7 @@ fn meant(block: &[u8]) -> Record {
     })
 }
 
-/// Puts bytes to the front of the output; how many they are.
+/// Puts bytes into the front of the output, and says how many they are.
 fn send(out: &mut [u8], bytes: &[u8]) -> u64 {
     let front = out.get_mut(..bytes.len()).expect("the room is checked");
     front.copy_from_slice(bytes);
@@ -137,7 +137,7 @@ fn searching(bytes: &[u8], from: usize) -> Answer {
     }
 }
 
-/// The room that a call finds: none where the record block has another length.
+/// The room that a call has: none where the record block has another length.
 fn room(out: &[u8], block: &[u8]) -> usize {
     if block.len() == blocks::RECORD {
         out.len()
@@ -182,7 +182,7 @@ impl Face for Second {
                 Ok(outcome(DESK_DONE))
             }),
             Call::DeskKey(key) => on_desk(state, |desk| {
-                // a key wider than a byte is no position, as 0 is none
+                // a key above 255 is no position, and neither is 0
                 desk.turn_key(u8::try_from(key).unwrap_or(0))?;
                 Ok(outcome(DESK_DONE))
             }),

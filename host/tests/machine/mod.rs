@@ -19,7 +19,8 @@ pub fn text(path: &str) -> String {
     fs::read_to_string(repository(path)).expect(path)
 }
 
-/// Says once why tests do nothing, past the test runner, which keeps what a passed test prints.
+/// Says once why tests do nothing. It writes past the test runner, which hides what a passed test
+/// prints.
 pub fn skipped(why: &str) {
     static SAID: Mutex<BTreeSet<String>> = Mutex::new(BTreeSet::new());
     if SAID.lock().expect("no test broke it").insert(why.into()) {

@@ -15,8 +15,8 @@ use std::time::Duration;
 /// Document 01's sample: digit 3 and the telegrams of cases a and i.
 pub const SAMPLE: &[u8] = b"3\n08A0AAA5\r\n08A0AAA6\r";
 
-/// The program's path: the environment variable LISTING, a relative one being taken from the
-/// crate's folder, else ../target/bin/listing from there.
+/// The program's path: the environment variable LISTING, else ../target/bin/listing; a relative
+/// path is taken from the crate's folder.
 fn program() -> PathBuf {
     let named = std::env::var_os("LISTING").unwrap_or("../target/bin/listing".into());
     let path = Path::new(env!("CARGO_MANIFEST_DIR")).join(named);
@@ -57,8 +57,8 @@ fn printed(stdin: Stdio, feed: impl FnOnce(ChildStdin) -> std::io::Result<()> + 
     output.stdout
 }
 
-/// Holds the printed bytes against the independent listing; where they differ the input is
-/// kept in a file and the first differing line is shown.
+/// Compares the printed bytes with the independent listing. Where they differ it keeps the input in
+/// a file and shows the first line that differs.
 fn agree(name: &str, input: &[u8], printed: Vec<u8>) -> String {
     let wanted = listing(input);
     if printed == wanted.as_bytes() {
@@ -95,8 +95,8 @@ pub fn compare_from_file(name: &str, input: &[u8]) -> String {
     agree(name, input, bytes)
 }
 
-/// Feeds an input in small writes, each of the next size drawn, with a flush and a rest
-/// after each, and answers the listing.
+/// Feeds an input in small writes of random sizes, with a flush and a rest after each, and answers
+/// the listing.
 pub fn compare_slowly(
     name: &str,
     input: &[u8],

@@ -1,0 +1,60 @@
+//! What the README shows of other files is what stands in them.
+
+mod machine;
+
+use host::listing::listing;
+use machine::{repository, text};
+
+/// Lines as the README shows them, four spaces in.
+fn indented(lines: &str) -> String {
+    let lines = lines.trim_end().lines().map(|line| match line {
+        "" => String::new(),
+        _ => format!("    {line}"),
+    });
+    lines.collect::<Vec<_>>().join("\n") + "\n"
+}
+
+/// The README and the manual show examples/read.c as it is.
+#[test]
+fn the_example() {
+    let source = text("examples/read.c");
+    let (_, code) = source.split_once('\n').expect("a first line");
+    assert!(text("README.md").contains(&indented(code)));
+    let page = text("man/in656.3").replace("\\-", "-").replace("\\e", "\\");
+    assert!(page.contains(code));
+}
+
+/// Every definition of the checksum.
+#[test]
+fn the_definition() {
+    let source = text("crates/characters/specs/Checksum.antt");
+    let (_, definitions) = source.split_once("\n\n").expect("the lines behind use");
+    assert!(text("README.md").contains(&indented(definitions)));
+}
+
+/// One row for each refusal that the header has.
+#[test]
+fn the_refusals() {
+    let (page, header) = (text("README.md"), text("include/in656.h"));
+    let list = header.split("/* Refusals").nth(1).expect("its list");
+    let list = list.split("/*\n").next().expect("its end");
+    let numbers = list.lines().filter_map(|line| {
+        let word = line.strip_prefix("#define ")?.split_whitespace().nth(1)?;
+        word.strip_suffix('u')?.parse::<usize>().ok()
+    });
+    let numbers: Vec<usize> = numbers.filter(|number| *number > 0).collect();
+    assert_eq!(numbers, (1..=numbers.len()).collect::<Vec<_>>());
+    let table = page.split("|---:|---|---|\n").nth(1).expect("its table");
+    let rows = table.lines().take_while(|line| line.starts_with('|'));
+    let rows = rows.filter_map(|row| row.split('|').nth(1)?.trim().parse().ok());
+    assert_eq!(rows.collect::<Vec<usize>>(), numbers);
+}
+
+/// The two lines of a listing.
+#[test]
+fn the_listing() {
+    let capture = std::fs::read(repository("samples/line1.cap")).expect("the sample");
+    let listed = listing(&capture);
+    let lines: Vec<&str> = listed.lines().skip(6).take(2).collect();
+    assert!(text("README.md").contains(&indented(&lines.join("\n"))));
+}
