@@ -118,7 +118,7 @@ soak: $(ARCHIVE)
 	$(call need,cargo)
 	@$(HOST) --release --bin compare $$((100 * $(FACTOR)))
 
-bench: $(ARCHIVE)
+bench: $(ARCHIVE) dist/listing
 	$(call need,cargo)
 	@$(HOST) --release --bin bench
 

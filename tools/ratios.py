@@ -18,7 +18,7 @@ def across(ratio):
 
 
 def main():
-    rows = [(m[1], float(m[2]), float(m[3]), float(m[4])) for m in map(ROW.match, sys.stdin.read().splitlines()) if m]
+    rows = [(m[1], float(m[2]), float(m[3]), float(m[4])) for m in map(ROW.match, sys.stdin.read().splitlines()) if m and 'wc -l' not in m[1]]
     rows.sort(key=lambda row: row[1])
     height = TOP + HIGH * len(rows) + 30
     out = [f'<svg xmlns="http://www.w3.org/2000/svg" width="{LEFT + WIDE + 70}" height="{height}" font-family="sans-serif" font-size="12">',

@@ -24,12 +24,21 @@ fn the_example() {
     assert!(page.contains(code));
 }
 
-/// Every definition of the checksum.
+/// Every rule that it quotes, and every definition of the checksum.
 #[test]
 fn the_definition() {
+    let (page, rules) = (text("README.md"), text("docs/RULES.md"));
+    let quoted: Vec<&str> = page
+        .lines()
+        .filter_map(|line| line.strip_prefix("> "))
+        .collect();
+    assert!(!quoted.is_empty());
+    for rule in quoted {
+        assert!(rules.contains(&format!("- {rule}\n")), "{rule}");
+    }
     let source = text("crates/characters/specs/Checksum.antt");
     let (_, definitions) = source.split_once("\n\n").expect("the lines behind use");
-    assert!(text("README.md").contains(&indented(definitions)));
+    assert!(page.contains(&indented(definitions)));
 }
 
 /// One row for each refusal that the header has.

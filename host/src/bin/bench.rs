@@ -11,13 +11,17 @@ use host::making::{any_form, piece};
 use host::random::Random;
 use host::reading::{read, CR, LF};
 use host::records::{by_master, Record};
+use std::fs::File;
 use std::hint::black_box;
+use std::process::{Command, Stdio};
 use std::time::Instant;
 
 /// How often each pair is timed.
 const TURNS: usize = 9;
 /// The bytes of a capture.
 const BYTES: usize = 1 << 20;
+/// How often a capture stands in the file that the program lists.
+const COPIES: usize = 64;
 /// The telegrams read, written and heard in a turn.
 const TELEGRAMS: usize = 20_000;
 
@@ -197,6 +201,24 @@ fn each_byte(face: &dyn Face, name: &str, bytes: &[u8]) {
     );
 }
 
+/// The program that lists captures beside `wc -l`, both reading one file of a capture many times over.
+fn beside_wc(name: &str, bytes: &[u8]) -> std::io::Result<()> {
+    let path = std::env::temp_dir().join(format!("bench-{}.cap", std::process::id()));
+    std::fs::write(&path, [b"1".as_slice(), &bytes.repeat(COPIES)].concat())?;
+    let run = |words: &[&str]| {
+        let mut command = Command::new(words[0]);
+        command.args(&words[1..]).stdout(Stdio::null());
+        let ended = File::open(&path).and_then(|file| command.stdin(file).status());
+        assert!(ended.is_ok_and(|status| status.success()), "{words:?}");
+    };
+    let what = format!("listing beside wc -l, a byte, {name}");
+    let by_program = || run(&["tools/run", "dist/listing"]);
+    row(&what, bytes.len() * COPIES, by_program, || {
+        run(&["wc", "-l"])
+    });
+    std::fs::remove_file(&path)
+}
+
 /// A capture of `BYTES` bytes, made of pieces.
 fn made(mut piece: impl FnMut() -> Vec<u8>) -> Vec<u8> {
     let mut bytes = Vec::new();
@@ -238,6 +260,9 @@ fn main() {
     ];
     for (name, bytes) in captures {
         each_byte(face, name, &bytes);
+        if let Err(trouble) = beside_wc(name, &bytes) {
+            stop(&format!("bench: {trouble}"));
+        }
     }
-    println!("ratio: the library's time over the second version's, the median, then the lowest and the highest");
+    println!("ratio: the library's time over the second version's or over that of wc -l, the median, then the lowest and the highest");
 }
