@@ -11,11 +11,11 @@ use Rattle.reading.specs.Answers.{written}
 use Rattle.text.specs.Putting.{placed}
 use Rattle.listings.specs.Lines.{lineRoom}
 use Rattle.pieces.specs.declared.pieces.Listed.{Listed}
-use Rattle.captures.specs.declared.lister.Lister.{Lister}
-use Rattle.captures.specs.declared.lister.Wants.the-variants.{Read, Again, End}
+use Rattle.lister.specs.declared.state.Lister.{Lister}
+use Rattle.lister.specs.declared.state.Wants.the-variants.{Read, Again, End}
 use Rattle.pieces.specs.Pieces.{spansOf, wrapped, linesIn, linesOf, keptFrom, tailOf, tailPut}
 use Rattle.pieces.specs.Whole.{linesLeft}
-use Rattle.captures.specs.Lister.{Turned, again, behind, carried, carriedOn}
+use Rattle.captures.specs.Turn.{Turned, again, behind, carried, carriedOn}
 use Rattle.captures.specs.Runs.{frontOf}
 use Rattle.pieces.proofs.Filled.{Fills, part-fills}
 use Rattle.pieces.proofs.Whole.{in-two}

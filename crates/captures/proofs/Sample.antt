@@ -25,7 +25,8 @@ use Rattle.words.specs.Items.{refusalText}
 use Rattle.listings.specs.Lines.{lineText}
 use Rattle.captures.specs.Sample.{PaperListing, NoInput, OtherByte, DigitAlone}
 use Rattle.pieces.specs.Pieces.{spansOn, spansOf, lineAt, linesIn, linesOf}
-use Rattle.captures.specs.Captures.{lineNamed, listingOf}
+use Rattle.lister.specs.Lister.{lineNamed}
+use Rattle.captures.specs.Captures.{listingOf}
 
 pub paper-listing : PaperListing
 unfolding numeralOn numberOn inSet total checksumOf checkText forms onLine lookIn formOf typeRow dataType slotsIn countOf slotsOf widthIn widthOf

@@ -17,15 +17,18 @@ use Rattle.reading.specs.Answers.{good, written}
 use Rattle.text.specs.Putting.{puts, placed}
 use Rattle.text.proofs.Puts.{with-room}
 use Rattle.listings.specs.Lines.{lineRoom}
-use Rattle.captures.specs.declared.lister.Lister.{Lister}
-use Rattle.captures.specs.declared.lister.Wants.{Wants}
-use Rattle.captures.specs.declared.lister.Wants.the-variants.{Read, Again, End}
+use Rattle.lister.specs.declared.state.Lister.{Lister}
+use Rattle.lister.specs.declared.state.Wants.{Wants}
+use Rattle.lister.specs.declared.state.Wants.the-variants.{Read, Again, End}
 use Rattle.pieces.specs.Pieces.{linesOf}
-use Rattle.captures.specs.Captures.{lineNamed, badLine, listingOf}
-use Rattle.captures.specs.Lister.{Turned, atFirst, placeFits, listFault, lineFor, ended, unnamed, beside, carriedOn, listingOn, readingOn, wantedOf}
+use Rattle.lister.specs.Lister.{lineNamed}
+use Rattle.captures.specs.Captures.{badLine, listingOf}
+use Rattle.lister.specs.Lister.{atFirst, placeFits, listFault, lineFor, ended}
+use Rattle.captures.specs.Turn.{Turned, unnamed, beside, carriedOn, listingOn, readingOn, wantedOf}
 use Rattle.captures.specs.Runs.{Stand, Given, begun, bufferOf, frontOf, standBehind, MayTurn}
 use Rattle.pieces.proofs.Shifts.{lines-further}
-use Rattle.captures.proofs.Turning.{all-fits, passes, none-named, one-named, more-read, all-read}
+use Rattle.lister.proofs.Checks.{all-fits, passes}
+use Rattle.captures.proofs.Turning.{none-named, one-named, more-read, all-read}
 use Rattle.captures.proofs.Going.{Going, Went, went}
 
 -- the line is known, and its listing goes on

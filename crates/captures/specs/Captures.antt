@@ -1,17 +1,14 @@
 -- The listing of a whole capture (01, the end of 'Bench cases'). Assumes nothing.
-use Prim.Native.Nat.{ℕ, _-_}
-use Prim.Native.Char.{code}
+use Prim.Native.Nat.{ℕ}
 use mathlib.Core.Bool.{cond}
 use mathlib.Core.List.{List, [], _∷_, _++_}
 use Rattle.laws.specs.Text.{codes}
 use Rattle.characters.specs.Marks.{lf}
 use Rattle.forms.specs.Lines.{isLine}
 use Rattle.pieces.specs.Pieces.{linesOf}
+use Rattle.lister.specs.Lister.{lineNamed}
 
--- the line that a capture's first byte names, 0 where it names none, and what is printed then
-unfoldable pub lineNamed : ℕ → ℕ
-lineNamed digit = cond (isLine (digit - code "0")) (digit - code "0") 0
-
+-- what is printed where the first byte names no line
 abbrev pub badLine : List ℕ
 badLine = codes "no 15 0" ++ (lf ∷ [])
 

@@ -1,4 +1,4 @@
 pub mod Captures
-pub mod Lister
+pub mod Turn
 pub mod Runs
 pub mod Sample

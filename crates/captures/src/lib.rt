@@ -1,3 +1,2 @@
 // The listing of a capture of any length, a turn at a time.
-pub mod captures;
-pub mod lister;
+pub mod turn;

@@ -1,6 +1,7 @@
 // The listing program (01 'Bench cases'): lists the telegrams of standard input. It reads, calls a turn of the listing, and writes.
-use captures::lister::Lister;
-use captures::lister::Wants;
+use captures::turn::list;
+use lister::state::Lister;
+use lister::state::Wants;
 use reading::answers::Writing;
 use stdio::input::Got;
 use stdio::input::called_alone;
@@ -39,7 +40,7 @@ fn list_all(buf: &mut [u8], out: &mut [u8]) {
         let Got::Bytes(got) = next_piece(lister, buf) else {
             return;
         };
-        let step = lister.list(buf, got, out);
+        let step = list(lister, buf, got, out);
         let answer = step.answer;
         let Writing::Written(filled) = answer else {
             complain(b"listing: refused\n");

@@ -1,0 +1,130 @@
+// A turn of a listing: what was read is listed, and what the next turn needs is kept (01 'Bench cases', 'Numbered answers').
+ghost use mathlib.Core.Path.{_≡_};
+ghost use Rattle.reading.specs.Answers.{outcomeOf};
+ghost use Rattle.captures.specs.Captures.{badLine};
+ghost use Rattle.captures.specs.Turn.{unnamed, carriedOn, listingOn, readingOn, listOf};
+use characters::slices::less;
+use characters::slices::part;
+use lister::state::Lister;
+use lister::state::Wants;
+use pieces::pieces::keep_tail;
+use pieces::pieces::kept_from;
+use pieces::pieces::list_part;
+use reading::answers::Check;
+use reading::answers::Writing;
+use text::putting::put_text;
+
+// The state behind a turn, and how many bytes of the output are to be written, or its refusal.
+pub struct Step {
+    pub lister: Lister,
+    pub answer: Writing,
+}
+
+// What a capture of no line prints.
+pub fn bad_line() -> [u8; 8]
+    ensures { λ r. ⌜ r ≡ badLine ⌝ }
+{
+    [b'n', b'o', b' ', b'1', b'5', b' ', b'0', b'\n']
+}
+
+// No input, or another first byte: `no 15 0`, and nothing else.
+fn unnamed(lister: Lister, out: &mut [u8]) -> Step
+    ensures { λ r. ⌜ (r .lister, (outcomeOf (r .answer), now (out .exit))) ≡ unnamed lister (now (out .entry)) ⌝ }
+{
+    let filled = put_text(out, 0, &bad_line());
+    Step {
+        lister: lister.ended(),
+        answer: Writing::Written(filled),
+    }
+}
+
+// Lists the first n bytes of the buffer from the state's place on; behind their telegrams the last bytes are kept in front.
+fn carry_on(lister: Lister, line: u8, buf: &mut [u8], n: usize, out: &mut [u8]) -> Step
+    ensures { λ r. ⌜ (r .lister, (outcomeOf (r .answer), (now (buf .exit), now (out .exit)))) ≡ carriedOn lister line (now (buf .entry)) n (now (out .entry)) ⌝ }
+{
+    let listed = list_part(
+        line,
+        lister.ordinal,
+        lister.base,
+        part(buf, 0, n),
+        lister.next,
+        out,
+    );
+    if !listed.done {
+        return Step {
+            lister: Lister {
+                line,
+                held: n,
+                next: listed.next,
+                ordinal: listed.ordinal,
+                base: lister.base,
+                wants: Wants::Again,
+            },
+            answer: Writing::Written(listed.filled),
+        };
+    }
+    let from = kept_from(listed.next, n);
+    keep_tail(buf, from, n);
+    let wants = Wants::Read;
+    Step {
+        lister: Lister {
+            line,
+            held: less(n, from),
+            next: 0,
+            ordinal: listed.ordinal,
+            base: std::num::wrapping_add_u64(lister.base, from as u64),
+            wants,
+        },
+        answer: Writing::Written(listed.filled),
+    }
+}
+
+// Lists on, where the line is known.
+fn list_on(lister: Lister, buf: &mut [u8], n: usize, out: &mut [u8]) -> Step
+    ensures { λ r. ⌜ (r .lister, (outcomeOf (r .answer), (now (buf .exit), now (out .exit)))) ≡ listingOn lister (now (buf .entry)) n (now (out .entry)) ⌝ }
+{
+    let line = lister.line_for(part(buf, 0, n));
+    if line == 0 {
+        return unnamed(lister, out);
+    }
+    carry_on(lister, line, buf, n, out)
+}
+
+// A read of nothing ends the listing.
+fn read_on(lister: Lister, buf: &mut [u8], got: usize, n: usize, out: &mut [u8]) -> Step
+    ensures { λ r. ⌜ (r .lister, (outcomeOf (r .answer), (now (buf .exit), now (out .exit)))) ≡ readingOn lister (now (buf .entry)) got n (now (out .entry)) ⌝ }
+{
+    if got != 0 {
+        return list_on(lister, buf, n, out);
+    }
+    if lister.line == 0 {
+        return unnamed(lister, out);
+    }
+    Step {
+        lister: lister.ended(),
+        answer: Writing::Written(0),
+    }
+}
+
+// A turn: got bytes were read behind those held, and lines are put from the front of the output.
+pub fn list(lister: Lister, buf: &mut [u8], got: usize, out: &mut [u8]) -> Step
+    ensures { λ r. ⌜ (r .lister, (outcomeOf (r .answer), (now (buf .exit), now (out .exit)))) ≡ listOf lister (now (buf .entry)) got (now (out .entry)) ⌝ }
+{
+    let check = lister.list_check(buf.len(), got, out.len());
+    if let Check::Fails(refusal) = check {
+        return Step {
+            lister,
+            answer: Writing::Refused(refusal),
+        };
+    }
+    let n = lister.held + got;
+    let wants = lister.wants;
+    match wants {
+        Wants::Read => read_on(lister, buf, got, n, out),
+        Wants::Again => list_on(lister, buf, n, out),
+        Wants::End => Step {
+            lister,
+            answer: Writing::Written(0),
+        },
+    }
+}

@@ -1,0 +1,2 @@
+// The state of a listing between two turns.
+pub mod state;

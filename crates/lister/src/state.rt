@@ -1,0 +1,117 @@
+// The state of a listing between two turns, and what refuses a turn (01 'Bench cases', 'Numbered answers').
+ghost use mathlib.Core.Path.{_≡_};
+ghost use Rattle.reading.specs.Answers.{faultOf};
+ghost use Rattle.lister.specs.Lister.{atFirst, placeFits, listFault, lineNamed, lineFor, ended};
+use characters::marks::LONGEST;
+use characters::slices::byte_at;
+use forms::lines::is_line;
+use listings::lines::LINE_ROOM;
+use reading::answers::Check;
+use records::refusals::Refusal;
+
+// What a listing wants next: bytes read behind those held, none where the input has ended; the next turn, the output being full; or nothing more.
+pub enum Wants {
+    Read,
+    Again,
+    End,
+}
+
+// Between two turns: the line, 0 before its digit is known; how many bytes are held in front of the buffer; where among them the listing goes on; the next
+// telegram's ordinal; the offset of the first byte held.
+pub struct Lister {
+    pub line: u8,
+    pub held: usize,
+    pub next: usize,
+    pub ordinal: u64,
+    pub base: u64,
+    pub wants: Wants,
+}
+
+// The line that a capture's first byte names, 0 where it names none.
+pub fn line_named(digit: u8) -> u8
+    ensures { λ r. ⌜ r ≡ lineNamed digit ⌝ }
+{
+    if digit < b'0' {
+        return 0;
+    }
+    let line = digit - b'0';
+    if is_line(line) { line } else { 0 }
+}
+
+impl Lister {
+    // Ordinals go from 1; the digit stands before offset 0, and the listing goes on behind it.
+    pub fn start() -> Self
+        ensures { λ r. ⌜ r ≡ atFirst ⌝ }
+    {
+        Lister {
+            line: 0,
+            held: 0,
+            next: 1,
+            ordinal: 1,
+            base: u64::MAX,
+            wants: Wants::Read,
+        }
+    }
+
+    // Whether line and place are in their ranges: before the digit is known nothing is held, and then the listing goes on among the bytes held.
+    fn place_fits(self) -> bool
+        ensures { λ r. ⌜ r ≡ placeFits self ⌝ }
+    {
+        if self.line == 0 {
+            if self.held != 0 {
+                return false;
+            }
+            return self.next == 1;
+        }
+        if !is_line(self.line) {
+            return false;
+        }
+        self.next <= self.held
+    }
+
+    // What refuses a turn: 15, then 14.
+    pub fn list_check(self, len: usize, got: usize, room: usize) -> Check
+        ensures { λ r. ⌜ faultOf r ≡ listFault self len got room ⌝ }
+    {
+        if !self.place_fits() {
+            return Check::Fails(Refusal::State);
+        }
+        if len < self.held {
+            return Check::Fails(Refusal::State);
+        }
+        if len - self.held < got {
+            return Check::Fails(Refusal::State);
+        }
+        if room < LINE_ROOM {
+            return Check::Fails(Refusal::NoRoom);
+        }
+        if len < LONGEST {
+            return Check::Fails(Refusal::NoRoom);
+        }
+        Check::Good
+    }
+
+    // The line: the state's, or the one that the first byte names.
+    pub fn line_for(self, s: &[u8]) -> u8
+        ensures { λ r. ⌜ r ≡ lineFor self (now (s .entry)) ⌝ }
+    {
+        if self.line == 0 {
+            return line_named(byte_at(s, 0));
+        }
+        self.line
+    }
+
+    // All is said.
+    pub fn ended(self) -> Lister
+        ensures { λ r. ⌜ r ≡ ended self ⌝ }
+    {
+        Lister {
+            line: self.line,
+            held: self.held,
+            next: self.next,
+            ordinal: self.ordinal,
+            base: self.base,
+            wants: Wants::End,
+        }
+    }
+}
