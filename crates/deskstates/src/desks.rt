@@ -2,6 +2,8 @@
 // for r and the places of the queue (01 'Link rules', 'Desk'; 'Numbered answers', 15).
 ghost use mathlib.Core.Path.{_≡_};
 ghost use lib.ListN.{length};
+ghost use Rattle.laws.specs.Truth.{pad};
+ghost use Rattle.characters.specs.Marks.{longest};
 ghost use Rattle.desk.specs.State.{fresh};
 ghost use Rattle.words.specs.Fields.{sameText};
 ghost use Rattle.text.specs.Putting.{puts};
@@ -25,7 +27,6 @@ use replying::replying::Wanted;
 use replying::waiting::Waiting;
 use states::layout::count_byte;
 use states::layout::put_head;
-use states::layout::telegram_in;
 use text::putting::put_byte;
 use text::putting::put_text;
 use words::fields::same;
@@ -141,6 +142,15 @@ fn put_desk(out: &mut [u8], at: usize, d: Desk) -> usize
     let a = put_head(out, at, d.line, d.good, last.0, d.key);
     let b = put_counts(out, a, d.t1, d.kept, d.queued, set_byte(wanted));
     put_kept(out, b, stored, wanted, queue)
+}
+
+// As many bytes as a telegram may have, 0 behind those that are there.
+fn telegram_in(s: &[u8]) -> [u8; LONGEST]
+    ensures { λ r. ⌜ r ≡ pad longest (now (s .entry)) ⌝ }
+{
+    let mut bytes = [0u8; LONGEST];
+    bytes::copy(part(s, 0, LONGEST), &mut bytes);
+    bytes
 }
 
 // The desk that a block's bytes make.

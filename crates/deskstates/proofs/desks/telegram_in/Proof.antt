@@ -2,10 +2,10 @@
 use denote.Ref.{now}
 use lib.ListN.{drop}
 use Rattle.characters.specs.Marks.{longest}
-use Rattle.states.proofs.Parts.{most, copied}
+use Rattle.deskstates.proofs.Copied.{most, copied}
 use borrow.Author.Needs.{needs}
-use Rattle.states.proofs.layout.telegram_in.Statement.{statement}
-use Rattle.states.proofs.layout.telegram_in.Tie as tie
+use Rattle.deskstates.proofs.desks.telegram_in.Statement.{statement}
+use Rattle.deskstates.proofs.desks.telegram_in.Tie as tie
 
 part-requires : tie.Need-part-requires
 part-requires c κs = search needs
