@@ -27,7 +27,7 @@ use Rattle.blocks.specs.declared.record.Found.the-variants.{Is, Refused}
 use Rattle.blocks.proofs.Laid.{filled-with, joined-length, each-back}
 use Rattle.blocks.proofs.Fours.{four-length, four-back}
 
-pad-length : (n : ℕ) (xs : List ℕ) → length (pad n xs) ≡ n
+pub pad-length : (n : ℕ) (xs : List ℕ) → length (pad n xs) ≡ n
 pad-length zero xs = refl
 pad-length (suc n) [] = ap suc (pad-length n [])
 pad-length (suc n) (x ∷ xs) = ap suc (pad-length n xs)

@@ -8,7 +8,7 @@ use Rattle.desk.specs.declared.state.Desk.{Desk}
 use Rattle.desk.specs.Answers as d
 use Rattle.desk.specs.Hearing as dh
 use Rattle.blocks.specs.Record.{recordLength}
-use Rattle.states.specs.Desks as ds
+use Rattle.deskstates.specs.Desks as ds
 use Rattle.results.specs.declared.result.In656Result.{In656Result}
 use Rattle.results.specs.Desks.{heardResult}
 use Rattle.deskcalls.specs.Desks as desk

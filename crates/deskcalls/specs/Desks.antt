@@ -12,7 +12,7 @@ use Rattle.desk.specs.Panel.{tickOf, queueOf, setOf, keyOf}
 use Rattle.desk.specs.Hearing.{Hearing, hearOf}
 use Rattle.blocks.specs.Layout.{filled}
 use Rattle.blocks.specs.Record.{recordLength, recordBytes}
-use Rattle.states.specs.Desks.{deskLength, loadOf, saveOf}
+use Rattle.deskstates.specs.Desks.{deskLength, loadOf, saveOf}
 use Rattle.results.specs.declared.result.In656Result.{In656Result}
 use Rattle.results.specs.Desks.{doneResult, heardResult}
 use Rattle.inputs.specs.Numbers.{keyIn, lineFor, recordMeant}

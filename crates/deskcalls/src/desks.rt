@@ -9,6 +9,9 @@ use desk::answers::Heard;
 use desk::applying::Hearing;
 use desk::state::Desk;
 use desk::state::Step;
+use deskstates::desks::DESK_LENGTH;
+use deskstates::desks::load;
+use deskstates::desks::save;
 use inputs::numbers::byte_or;
 use inputs::numbers::line_for;
 use inputs::numbers::meaning;
@@ -16,9 +19,6 @@ use replying::replying::Source;
 use results::desks::of_heard;
 use results::desks::of_outcome;
 use results::result::In656Result;
-use states::desks::DESK_LENGTH;
-use states::desks::load;
-use states::desks::save;
 
 // The state behind a call is saved where it is not refused.
 fn close(step: Step, state: &mut [u8]) -> In656Result

@@ -11,7 +11,7 @@ use Rattle.master.specs.Answers as m
 use Rattle.master.specs.Sending.{Behind}
 use Rattle.master.specs.Hearing as mh
 use Rattle.blocks.specs.Record.{recordLength}
-use Rattle.states.specs.Masters as ms
+use Rattle.masterstates.specs.Masters as ms
 use Rattle.results.specs.declared.result.In656Result.{In656Result}
 use Rattle.results.specs.Result.{Call}
 use Rattle.results.specs.Telegrams.{writeResult}

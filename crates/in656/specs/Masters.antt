@@ -11,7 +11,7 @@ use Rattle.master.specs.Sending.{Behind, offerOf, tickOf}
 use Rattle.master.specs.Hearing.{hearOf}
 use Rattle.blocks.specs.Layout.{filled}
 use Rattle.blocks.specs.Record.{recordLength, recordBytes}
-use Rattle.states.specs.Masters.{masterLength, loadOf, saveOf}
+use Rattle.masterstates.specs.Masters.{masterLength, loadOf, saveOf}
 use Rattle.results.specs.declared.result.In656Result.{In656Result}
 use Rattle.results.specs.Result.{Call}
 use Rattle.results.specs.Masters.{toldResult}

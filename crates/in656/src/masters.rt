@@ -10,11 +10,11 @@ use inputs::numbers::meaning;
 use master::answers::Answer;
 use master::state::Master;
 use master::state::Step;
+use masterstates::masters::MASTER_LENGTH;
+use masterstates::masters::load;
+use masterstates::masters::save;
 use results::masters::of_answer;
 use results::result::In656Result;
-use states::masters::MASTER_LENGTH;
-use states::masters::load;
-use states::masters::save;
 
 // The state behind a call is saved where it is not refused.
 fn close(step: Step, state: &mut [u8]) -> In656Result

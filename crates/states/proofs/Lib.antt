@@ -2,5 +2,4 @@ pub mod Parts
 pub mod Loads
 pub mod Puts
 pub mod GathererBlock
-pub mod MasterBlock
-pub mod DeskBlock
+pub mod InPlace

@@ -1,5 +1,3 @@
 pub mod Layout
 pub mod States
 pub mod Gatherers
-pub mod Masters
-pub mod Desks

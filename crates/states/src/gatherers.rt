@@ -1,18 +1,22 @@
 // A gatherer as a block: the number of bytes gathered, and the bytes (01 'Cutting the stream'; 'Numbered answers', 15).
 ghost use mathlib.Core.Path.{_≡_};
-ghost use Rattle.words.specs.Fields.{sameText};
+ghost use Prim.Native.Nat.{_+_, _<_};
+ghost use lib.ListN.{length};
 ghost use Rattle.text.specs.Putting.{puts};
-ghost use Rattle.states.specs.Gatherers.{gathererBytes, gathererAt, blank, loadOf, saveOf};
+ghost use Rattle.gathering.specs.Gather.{gatheredOf};
+ghost use Rattle.gathering.specs.declared.gather.Item.the-variants.{Byte, Hit};
+ghost use Rattle.states.specs.Gatherers.{gathererBytes, saveOf, countIn, holdingIn, gatherIn};
 use crate::layout::count_byte;
-use crate::layout::telegram_in;
 use characters::marks::LONGEST;
 use characters::slices::byte_at;
-use characters::slices::part;
 use characters::slices::wide;
+use gathering::gather::Gathered;
 use gathering::gather::Gatherer;
+use records::refusals::Refusal;
 use text::putting::put_byte;
 use text::putting::put_text;
-use words::fields::same;
+use turns::turns::Turn;
+use turns::turns::turn_of;
 
 // All bytes of a gatherer's block.
 pub const GATHERER_LENGTH: usize = 1 + LONGEST;
@@ -26,42 +30,6 @@ fn put_gatherer(out: &mut [u8], at: usize, g: Gatherer) -> usize
     put_text(out, a, &bytes)
 }
 
-// The gatherer that a block's bytes make.
-fn gatherer_at(block: &[u8]) -> Gatherer
-    ensures { λ r. ⌜ r ≡ gathererAt (now (block .entry)) ⌝ }
-{
-    let bytes = telegram_in(part(block, 1, LONGEST));
-    let len = wide(byte_at(block, 0));
-    Gatherer { bytes, len }
-}
-
-// Whether bytes are a gatherer's block.
-fn is_block(block: &[u8], g: Gatherer) -> bool
-    ensures { λ r. ⌜ r ≡ sameText (gathererBytes g) (now (block .entry)) ⌝ }
-{
-    let mut again = [0u8; GATHERER_LENGTH];
-    put_gatherer(&mut again, 0, g);
-    same(&again, block)
-}
-
-// A gatherer that every step refuses 15.
-fn blank() -> Gatherer
-    ensures { λ r. ⌜ r ≡ blank ⌝ }
-{
-    Gatherer {
-        bytes: [0u8; LONGEST],
-        len: LONGEST,
-    }
-}
-
-// The gatherer of a block; the blank one where the bytes are no gatherer's.
-pub fn load(block: &[u8]) -> Gatherer
-    ensures { λ r. ⌜ r ≡ loadOf (now (block .entry)) ⌝ }
-{
-    let g = gatherer_at(block);
-    if is_block(block, g) { g } else { blank() }
-}
-
 // Fills a block of just its length with a gatherer; any other stays as it was.
 pub fn save(g: Gatherer, block: &mut [u8])
     ensures { λ _. ⌜ now (block .exit) ≡ saveOf g (now (block .entry)) ⌝ }
@@ -69,4 +37,61 @@ pub fn save(g: Gatherer, block: &mut [u8])
     if block.len() == GATHERER_LENGTH {
         put_gatherer(block, 0, g);
     }
+}
+
+// The number of bytes gathered; 66, which no gatherer in its ranges has, where the block has another length.
+fn count_in(block: &[u8]) -> usize
+    ensures { λ r. ⌜ r ≡ countIn (now (block .entry)) ⌝ }
+{
+    if block.len() == GATHERER_LENGTH {
+        wide(byte_at(block, 0))
+    } else {
+        LONGEST
+    }
+}
+
+// Writes the number of bytes gathered, and a byte of the telegram at its index.
+fn put(block: &mut [u8], count: u8, at: usize, byte: u8)
+    requires { ⌜ at + 1 < length (now block) ⌝ }
+    ensures { λ _. ⌜ now (block .exit) ≡ holdingIn (now (block .entry)) count at byte ⌝ }
+{
+    block[0] = count;
+    block[at + 1] = byte;
+}
+
+// One byte on a gatherer's block: of its bytes a step changes at most the count and one other.
+pub fn gather_byte(block: &mut [u8], byte: u8) -> Gathered
+    ensures { λ r. ⌜ (gatheredOf r, now (block .exit)) ≡ gatherIn (now (block .entry)) (Byte byte) ⌝ }
+{
+    let len = count_in(block);
+    if LONGEST <= len {
+        return Gathered::Refused(Refusal::State);
+    }
+    let turn = turn_of(len, byte);
+    match turn {
+        Turn::Joins(at) => {
+            put(block, (at + 1) as u8, at, byte);
+            Gathered::Nothing
+        }
+        Turn::Ends(at) => {
+            put(block, 0, at, byte);
+            Gathered::Telegram(at + 1)
+        }
+        Turn::Drops => {
+            block[0] = 0;
+            Gathered::Nothing
+        }
+    }
+}
+
+// A hit on a gatherer's block.
+pub fn gather_hit(block: &mut [u8]) -> Gathered
+    ensures { λ r. ⌜ (gatheredOf r, now (block .exit)) ≡ gatherIn (now (block .entry)) Hit ⌝ }
+{
+    let len = count_in(block);
+    if LONGEST <= len {
+        return Gathered::Refused(Refusal::State);
+    }
+    block[0] = 0;
+    Gathered::Nothing
 }

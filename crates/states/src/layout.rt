@@ -1,45 +1,25 @@
-// What the blocks of states share: counts, truths, the bytes of a telegram, and the four bytes that both ends begin with.
+// What the blocks of states share: counts, truths, and the four bytes that both ends begin with.
 ghost use mathlib.Core.Path.{_≡_};
-ghost use Rattle.laws.specs.Truth.{pad};
-ghost use Rattle.characters.specs.Marks.{longest};
 ghost use Rattle.text.specs.Putting.{puts};
 ghost use Rattle.states.specs.Layout.{countByte, flagByte, headBytes};
-use characters::marks::LONGEST;
-use characters::slices::part;
 use text::putting::put_byte;
 
 // A count as a byte; 255, which no count may be, where it is larger.
-pub(crate) fn count_byte(n: usize) -> u8
+pub fn count_byte(n: usize) -> u8
     ensures { λ r. ⌜ r ≡ countByte n ⌝ }
 {
     if n < 256 { n as u8 } else { 255 }
 }
 
 // 1 or 0.
-pub(crate) fn flag_byte(on: bool) -> u8
+fn flag_byte(on: bool) -> u8
     ensures { λ r. ⌜ r ≡ flagByte on ⌝ }
 {
     if on { 1 } else { 0 }
 }
 
-// As many bytes as a telegram may have, 0 behind those that are there.
-pub(crate) fn telegram_in(s: &[u8]) -> [u8; LONGEST]
-    ensures { λ r. ⌜ r ≡ pad longest (now (s .entry)) ⌝ }
-{
-    let mut bytes = [0u8; LONGEST];
-    bytes::copy(part(s, 0, LONGEST), &mut bytes);
-    bytes
-}
-
 // Puts an end's line, whether it is good, its number and one byte more.
-pub(crate) fn put_head(
-    out: &mut [u8],
-    at: usize,
-    line: u8,
-    good: bool,
-    number: u8,
-    more: u8,
-) -> usize
+pub fn put_head(out: &mut [u8], at: usize, line: u8, good: bool, number: u8, more: u8) -> usize
     ensures { λ r. ⌜ (r, now (out .exit)) ≡ puts (headBytes line good number more) at (now (out .entry)) ⌝ }
 {
     let a = put_byte(out, at, line);

@@ -1,0 +1,37 @@
+-- `is_block` writes the state again and compares. Assumes nothing.
+use mathlib.Core.Path.{sym}
+use denote.Ref.{now}
+use lib.ListN.{replicate}
+use Rattle.blocks.proofs.Laid.{again-same}
+use Rattle.deskstates.specs.Desks.{deskLength, deskBytes}
+use borrow.Author.Needs.{needs}
+use Rattle.deskstates.proofs.desks.is_block.Statement.{statement}
+use Rattle.deskstates.proofs.desks.is_block.Tie as tie
+
+slice-aggregate-put-desk : tie.Need-slice-aggregate-put-desk
+slice-aggregate-put-desk c = search needs
+
+put-desk-requires : tie.Need-put-desk-requires
+put-desk-requires c κs = search needs
+
+slice-aggregate-same : tie.Need-slice-aggregate-same
+slice-aggregate-same c = search needs
+
+same-requires : tie.Need-same-requires
+same-requires c κs = search needs
+
+returns : tie.Need-returns
+returns c =
+    let a = c .before .before .before .before .before .before .args in
+    again-same (deskBytes (a .d)) (replicate deskLength 0) (now (a .block)) _ _ _
+    (sym (c .before .before .before .put-desk .ensures .1)) (c .before .before .before .put-desk .ensures .0) (c .same .ensures)
+
+pub is-block-spec : {M : Type 1} → statement M
+is-block-spec =
+    tie.close
+    (tie.spec
+    slice-aggregate-put-desk
+    put-desk-requires
+    slice-aggregate-same
+    same-requires
+    returns)

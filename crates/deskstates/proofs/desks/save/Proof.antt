@@ -1,0 +1,27 @@
+-- `save` fills a block of just its length. Assumes nothing.
+use denote.Ref.{now}
+use Rattle.blocks.proofs.Laid.{fill, unfilled}
+use Rattle.deskstates.specs.Desks.{deskLength, deskBytes}
+use borrow.Author.Needs.{needs}
+use Rattle.deskstates.proofs.desks.save.Statement.{statement}
+use Rattle.deskstates.proofs.desks.save.Tie as tie
+
+put-desk-requires : tie.Need-put-desk-requires
+put-desk-requires c κs = search needs
+
+same-length : tie.Need-same-length
+same-length c = search needs
+
+returns : tie.Need-returns
+returns c =
+    let p = c .before .before in
+    let a = p .before .before .before .before .args in
+    fill deskLength (deskBytes (a .d)) (now (a .block)) _ _ (p .put-desk .ensures .1) (p .before .before .if1 .taken) (p .put-desk .ensures .0)
+
+returns-2 : tie.Need-returns-2
+returns-2 c =
+    let a = c .before .before .args in
+    unfilled deskLength (deskBytes (a .d)) (now (a .block)) (c .if1 .left)
+
+pub save-spec : {M : Type 1} → statement M
+save-spec = tie.close (tie.spec put-desk-requires same-length returns returns-2)

@@ -1,0 +1,38 @@
+-- `is_block` writes the state again and compares. Assumes nothing.
+use mathlib.Core.Path.{sym}
+use denote.Ref.{now}
+use lib.ListN.{replicate}
+use Rattle.blocks.proofs.Laid.{again-same}
+use Rattle.masterstates.specs.Masters.{masterLength, masterBytes}
+use Rattle.masterstates.proofs.MasterBlock.{master-length}
+use borrow.Author.Needs.{needs}
+use Rattle.masterstates.proofs.masters.is_block.Statement.{statement}
+use Rattle.masterstates.proofs.masters.is_block.Tie as tie
+
+slice-aggregate-put-master : tie.Need-slice-aggregate-put-master
+slice-aggregate-put-master c = search needs
+
+put-master-requires : tie.Need-put-master-requires
+put-master-requires c κs = search needs
+
+slice-aggregate-same : tie.Need-slice-aggregate-same
+slice-aggregate-same c = search needs
+
+same-requires : tie.Need-same-requires
+same-requires c κs = search needs
+
+returns : tie.Need-returns
+returns c =
+    let a = c .before .before .before .before .before .before .args in
+    again-same (masterBytes (a .m)) (replicate masterLength 0) (now (a .block)) _ _ _
+    (sym (master-length (a .m))) (c .before .before .before .put-master .ensures) (c .same .ensures)
+
+pub is-block-spec : {M : Type 1} → statement M
+is-block-spec =
+    tie.close
+    (tie.spec
+    slice-aggregate-put-master
+    put-master-requires
+    slice-aggregate-same
+    same-requires
+    returns)

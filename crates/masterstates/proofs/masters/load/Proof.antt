@@ -1,0 +1,32 @@
+-- `load` compares before it answers. Assumes nothing.
+use mathlib.Core.Path.{sym, _∙_}
+use denote.Ref.{now}
+use Rattle.states.proofs.Loads.{loads, loads-blank}
+use Rattle.master.specs.State.{unstarted}
+use Rattle.masterstates.specs.Masters.{masterBytes, masterAt}
+use borrow.Author.Needs.{needs}
+use Rattle.masterstates.proofs.masters.load.Statement.{statement}
+use Rattle.masterstates.proofs.masters.load.Tie as tie
+
+master-at-requires : tie.Need-master-at-requires
+master-at-requires c κs = search needs
+
+is-block-requires : tie.Need-is-block-requires
+is-block-requires c κs = search needs
+
+unstarted-requires : tie.Need-unstarted-requires
+unstarted-requires c κs = search needs
+
+returns : tie.Need-returns
+returns c =
+    loads masterBytes masterAt unstarted (now (c .before .before .before .before .args .block)) _ (c .before .before .master-at .ensures) (sym (c .if1 .taken) ∙ c .before .is-block .ensures)
+
+returns-2 : tie.Need-returns-2
+returns-2 c =
+    let p = c .before .before in
+    loads-blank masterBytes masterAt unstarted (now (p .before .before .before .args .block)) _ _ (p .before .master-at .ensures)
+    (sym (c .before .if1 .left) ∙ p .is-block .ensures) (c .unstarted .ensures)
+
+pub load-spec : {M : Type 1} → statement M
+load-spec =
+    tie.close (tie.spec master-at-requires is-block-requires unstarted-requires returns returns-2)

@@ -1,0 +1,28 @@
+-- `save` fills a block of just its length. Assumes nothing.
+use denote.Ref.{now}
+use Rattle.blocks.proofs.Laid.{fill, unfilled}
+use Rattle.masterstates.specs.Masters.{masterLength, masterBytes}
+use Rattle.masterstates.proofs.MasterBlock.{master-length}
+use borrow.Author.Needs.{needs}
+use Rattle.masterstates.proofs.masters.save.Statement.{statement}
+use Rattle.masterstates.proofs.masters.save.Tie as tie
+
+put-master-requires : tie.Need-put-master-requires
+put-master-requires c κs = search needs
+
+same-length : tie.Need-same-length
+same-length c = search needs
+
+returns : tie.Need-returns
+returns c =
+    let p = c .before .before in
+    let a = p .before .before .before .before .args in
+    fill masterLength (masterBytes (a .m)) (now (a .block)) _ _ (master-length (a .m)) (p .before .before .if1 .taken) (p .put-master .ensures)
+
+returns-2 : tie.Need-returns-2
+returns-2 c =
+    let a = c .before .before .args in
+    unfilled masterLength (masterBytes (a .m)) (now (a .block)) (c .if1 .left)
+
+pub save-spec : {M : Type 1} → statement M
+save-spec = tie.close (tie.spec put-master-requires same-length returns returns-2)

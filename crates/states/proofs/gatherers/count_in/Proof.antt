@@ -1,0 +1,23 @@
+-- `count_in` takes the count of a block of the right length. Assumes nothing.
+use borrow.Author.Tests.{eq-eqb, ne-eqb}
+use Rattle.states.specs.Gatherers.{countIn}
+use borrow.Author.Needs.{needs}
+use Rattle.states.proofs.gatherers.count_in.Statement.{statement}
+use Rattle.states.proofs.gatherers.count_in.Tie as tie
+
+byte-at-requires : tie.Need-byte-at-requires
+byte-at-requires c κs = search needs
+
+wide-requires : tie.Need-wide-requires
+wide-requires c κs = search needs
+
+returns : tie.Need-returns
+unfolding countIn
+returns c = rw (eq-eqb _ _ (c .before .before .if1 .taken), c .wide .ensures .0, c .before .byte-at .ensures)
+
+returns-2 : tie.Need-returns-2
+unfolding countIn
+returns-2 c = rw (ne-eqb _ _ (c .if1 .left))
+
+pub count-in-spec : {M : Type 1} → statement M
+count-in-spec = tie.close (tie.spec byte-at-requires wide-requires returns returns-2)
