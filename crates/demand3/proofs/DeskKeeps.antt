@@ -34,9 +34,9 @@ use Rattle.desk.proofs.Permitted.{answer-permitted}
 use Rattle.conduct.proofs.Desk.Stored.{reply-sent}
 use Rattle.conduct.proofs.Desk.Kept as k
 use Rattle.conduct.specs.Desk.Calls as c
-use Rattle.demand3.specs.Ends.{Said}
+use Rattle.protocol.specs.Ends.{Said}
 use Rattle.demand3.specs.Ours.{lostIn, saidOf, isLost, Panel, queues, sets, turns, panelOf, FromSlave}
-use Rattle.demand3.specs.Rules.{Reading, DView, First, DHears, frame, view}
+use Rattle.protocol.specs.Rules.{Reading, DView, First, DHears, frame, view}
 use Rattle.demand3.proofs.Numbers.{isOne, differ-other, read}
 use Rattle.demand3.proofs.Settled.{Settled, settled}
 use Rattle.demand3.proofs.MasterKeeps.{nak}

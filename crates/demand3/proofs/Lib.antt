@@ -1,9 +1,4 @@
 pub mod Runs
-pub mod Stepwise
-pub mod Protocol
-pub mod Laws
-pub mod Tidy
-pub mod Sim
 pub mod Numbers
 pub mod MasterKeeps
 pub mod Settled

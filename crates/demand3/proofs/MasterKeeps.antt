@@ -27,9 +27,9 @@ use Rattle.master.proofs.Ranges.{numbered, sendable-permits}
 use Rattle.conduct.specs.Master.Calls.{Call, offers, ticks, hears, outputOf, after, FirstSending, offered, polled}
 use Rattle.conduct.proofs.Master.Calls.{rejects, brings, Quiet, barred, idle, unheard, Ends, permitted, strange, Does, stays, begins, repeats, ends, givesUp, does}
 use Rattle.conduct.proofs.Master.Kept.{keeps, start-ranged}
-use Rattle.demand3.specs.Ends.{Did, nothing, got}
+use Rattle.protocol.specs.Ends.{Did, nothing, got}
 use Rattle.demand3.specs.Ours.{didOf, behindOf, FromMaster}
-use Rattle.demand3.specs.Rules.{MView, MActs, MHears, free, waits}
+use Rattle.protocol.specs.Rules.{MView, MActs, MHears, free, waits}
 use Rattle.demand3.proofs.Numbers.{isOne, changed-other, read, good-frame, written-good}
 
 -- what is seen of the master

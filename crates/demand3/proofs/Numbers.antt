@@ -17,7 +17,7 @@ use Rattle.roundtrips.proofs.Frames.{framed-faultless}
 use Rattle.roundtrips.proofs.Written.{written-framed, written-number}
 use Rattle.clock.specs.Counters.{changedOf, numberIn}
 use Rattle.demand3.specs.Ours.{isFault, isRefused}
-use Rattle.demand3.specs.Rules.{Reading, bad, frame}
+use Rattle.protocol.specs.Rules.{Reading, bad, frame}
 
 abbrev pub isOne : ℕ → Bool
 isOne zero = false

@@ -24,7 +24,7 @@ use Rattle.deciding.specs.Deciding.{What, contents, Ruling, silent, fault, repe
 use Rattle.deciding.proofs.Numbers.{good-checked}
 use Rattle.desk.specs.Hearing.{ruling}
 use Rattle.desk.specs.declared.state.Desk.{Desk}
-use Rattle.demand3.specs.Rules.{frame}
+use Rattle.protocol.specs.Rules.{frame}
 use Rattle.demand3.proofs.Numbers.{isOne, read, good-frame}
 
 -- what a rule says of the state and of the bytes: a repeat is a good frame with the last number on a good line, and what is handled is a

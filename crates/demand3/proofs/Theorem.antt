@@ -4,13 +4,13 @@ use mathlib.Core.Bool.{true}
 use mathlib.Core.List.{List, []}
 use Prim.Native.Nat.{ℕ}
 use Rattle.forms.specs.Lines.{isLine}
-use Rattle.demand3.specs.Demand.{NoLostInside}
+use Rattle.protocol.specs.Demand.{NoLostInside}
 use Rattle.demand3.specs.Theorems.{Demand3, Reports}
-use Rattle.demand3.specs.Ends.{Ev, ran}
+use Rattle.protocol.specs.Ends.{Ev, ran}
 use Rattle.demand3.specs.Ours.{ours, FromMaster, FromSlave}
-use Rattle.demand3.proofs.Stepwise.{Held, held-of, of-held}
-use Rattle.demand3.proofs.Laws.{Laws}
-use Rattle.demand3.proofs.Sim.{kept-stepwise, kept-always}
+use Rattle.protocol.proofs.Stepwise.{Held, held-of, of-held}
+use Rattle.protocol.proofs.Laws.{Laws}
+use Rattle.protocol.proofs.Sim.{kept-stepwise, kept-always}
 use Rattle.demand3.proofs.Numbers.{read, refused-bad}
 use Rattle.demand3.proofs.MasterKeeps as m
 use Rattle.demand3.proofs.DeskKeeps as d

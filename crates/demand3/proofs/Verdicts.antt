@@ -8,11 +8,11 @@ use native.Mathlib.Omega.{arith}
 use lib.ListN.{length}
 use Rattle.laws.specs.Truth.{All}
 use Rattle.forms.specs.Lines.{isLine}
-use Rattle.demand3.specs.History.{Tel, over, handled, again}
-use Rattle.demand3.specs.Demand.{NoLostInside, Promise, UpToLast, now, all, butLast}
+use Rattle.protocol.specs.History.{Tel, over, handled, again}
+use Rattle.protocol.specs.Demand.{NoLostInside, Promise, UpToLast, now, all, butLast}
 use Rattle.demand3.specs.Runs.{Run, Happens, keptRuns, place, poll, approved, lateSendingHistory, lateAnswerHistory}
 use Rattle.demand3.specs.Verdicts.{Promises, NotSupposed, NotPromised, LateNotPromised, StaleNot}
-use Rattle.demand3.proofs.Stepwise.{Held, of-held}
+use Rattle.protocol.proofs.Stepwise.{Held, of-held}
 use Rattle.demand3.proofs.Theorem.{demand3}
 use Rattle.demand3.proofs.Runs.{runs}
 

@@ -1,7 +1,3 @@
-pub mod History
-pub mod Demand
-pub mod Ends
-pub mod Rules
 pub mod Ours
 pub mod Allowed
 pub mod Runs

@@ -22,8 +22,8 @@ use Rattle.desk.specs.Answers as a
 use Rattle.desk.specs.State as s
 use Rattle.desk.specs.Panel as p
 use Rattle.desk.specs.Hearing as h
-use Rattle.demand3.specs.Ends.{Did, Said, MOut, DNote, DOut, Ends, first, resent, got, gave, silent, says, handles}
-use Rattle.demand3.specs.Ends as e
+use Rattle.protocol.specs.Ends.{Did, Said, MOut, DNote, DOut, Ends, first, resent, got, gave, silent, says, handles}
+use Rattle.protocol.specs.Ends as e
 
 -- what the master did, by what it tells: the bytes that it heard, what it tells, and the output behind the call
 abbrev pub didOf : List ℕ → Told → List ℕ → Did (List ℕ)

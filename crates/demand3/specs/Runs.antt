@@ -11,8 +11,8 @@ use Rattle.laws.specs.Truth.{All}
 use Rattle.characters.specs.Marks.{lf, cr, longest}
 use Rattle.records.specs.declared.records.Record.{Record}
 use Rattle.records.specs.declared.records.Record.the-variants.{Idling, Position, RadioData, Train, TrainData}
-use Rattle.demand3.specs.History.{Tel, Hist, sent, again, noted, handled, over, answered, gaveUp}
-use Rattle.demand3.specs.Ends.{Sys, Ev, run, start, ran, happened, mdo, ddo, sys, offer, mtick, dtick, act, lost, whole, spoilt, empty}
+use Rattle.protocol.specs.History.{Tel, Hist, sent, again, noted, handled, over, answered, gaveUp}
+use Rattle.protocol.specs.Ends.{Sys, Ev, run, start, ran, happened, mdo, ddo, sys, offer, mtick, dtick, act, lost, whole, spoilt, empty}
 use Rattle.demand3.specs.Ours.{ours, queues, sets}
 use Rattle.demand3.specs.Allowed.{allowed}
 

@@ -12,8 +12,8 @@ use Rattle.master.specs.Answers.{Told, nothing, sent, answered, otherKind, give
 use Rattle.master.specs.Answers as t
 use Rattle.master.specs.Hearing.{hearOf}
 use Rattle.master.specs.declared.state.Master.{Master}
-use Rattle.demand3.specs.Demand.{NoLostInside, Promise, Reported, Spoken}
-use Rattle.demand3.specs.Ends.{Ev, ran}
+use Rattle.protocol.specs.Demand.{NoLostInside, Promise, Reported, Spoken}
+use Rattle.protocol.specs.Ends.{Ev, ran}
 use Rattle.demand3.specs.Ours.{ours, isRefused, FromMaster, FromSlave}
 
 -- Demand 3, on line 1, 2 or 3, from any start time, over any events: offers of any record, ticks, calls of the panel, each with any values,

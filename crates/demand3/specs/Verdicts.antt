@@ -3,8 +3,8 @@
 use mathlib.Core.List.{List, [], _∷_, List·Memᴰ}
 use Prim.Native.Nat.{ℕ}
 use Rattle.laws.specs.Truth.{All}
-use Rattle.demand3.specs.History.{Tel, mades, gots}
-use Rattle.demand3.specs.Demand.{Was, NoLostInside, Promise, UpToLast}
+use Rattle.protocol.specs.History.{Tel, mades, gots}
+use Rattle.protocol.specs.Demand.{Was, NoLostInside, Promise, UpToLast}
 use Rattle.demand3.specs.Runs.{History, Run, stale, keptRuns, brokenRuns, lateSendingHistory, lateAnswerHistory}
 
 -- the supposition and the promise hold of the first runs,

@@ -1,1 +1,1 @@
-// Both ends over one line: demand 3. Theorems only.
+// Our two ends over one line: demand 3. Theorems only.

@@ -5,7 +5,7 @@ use mathlib.Core.Logic.{_⊎_}
 use Prim.Native.Nat.{ℕ, _<_}
 use lib.Dec.{T as So}
 use lib.ListN.{length}
-use Rattle.demand3.specs.History.{Tel, Item, Hist, sent, again, noted, handled, over, answered, gaveUp, sents, mades, gots, calm, never, sendings, firsts}
+use Rattle.protocol.specs.History.{Tel, Item, Hist, sent, again, noted, handled, over, answered, gaveUp, sents, mades, gots, calm, never, sendings, firsts}
 
 module _ {T A : Type 0} where
   -- x was handled

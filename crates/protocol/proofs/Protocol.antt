@@ -6,10 +6,10 @@ use Prim.Native.Nat.{ℕ}
 use mathlib.Core.Logic.{inl}
 use lib.Dec.{T as So}
 use lib.ListN.{length}
-use Rattle.demand3.specs.History.{Tel, Hist, sent, again, noted, handled, over, answered, gaveUp, sents, mades, gots, calm, never, firsts}
-use Rattle.demand3.specs.Demand.{Was, Sub, UpToLast, Counted, Kept, Promise, none, skip, take, all, butLast}
-use Rattle.demand3.specs.Rules.{answeredNumber, givenUpNumber, MayRepeat, MayHandle, repeatedAnswer, storedBehind}
-use Rattle.demand3.proofs.Stepwise.{LostSince, Held, falling}
+use Rattle.protocol.specs.History.{Tel, Hist, sent, again, noted, handled, over, answered, gaveUp, sents, mades, gots, calm, never, firsts}
+use Rattle.protocol.specs.Demand.{Was, Sub, UpToLast, Counted, Kept, Promise, none, skip, take, all, butLast}
+use Rattle.protocol.specs.Rules.{answeredNumber, givenUpNumber, MayRepeat, MayHandle, repeatedAnswer, storedBehind}
+use Rattle.protocol.proofs.Stepwise.{LostSince, Held, falling}
 
 -- what is on the line while the master is busy: nothing that matters, the newest sending, or the desk's answer to it
 pub data Way (A : Type 0) : Type 0 where

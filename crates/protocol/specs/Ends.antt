@@ -3,7 +3,7 @@ use mathlib.Core.Bool.{Bool, true, false}
 use mathlib.Core.List.{List, [], _∷_}
 use Prim.Native.Nat.{ℕ}
 use lib.ListN.{length}
-use Rattle.demand3.specs.History.{Tel, Hist, sents, sent, again, noted, handled, over, answered, gaveUp}
+use Rattle.protocol.specs.History.{Tel, Hist, sents, sent, again, noted, handled, over, answered, gaveUp}
 
 -- what a call of the master did: nothing, a first sending of these bytes, the same sent again, a report with the sending count:
 -- answered by these bytes, or given up

@@ -5,8 +5,8 @@ use mathlib.Core.Logic.{_⊎_, inl, inr}
 use Prim.Native.Nat.{ℕ, suc, _≤_}
 use native.Mathlib.Omega.{arith}
 use lib.ListN.{length}
-use Rattle.demand3.specs.History.{Tel, Item, Hist, sent, again, noted, handled, over, answered, gaveUp}
-use Rattle.demand3.specs.Demand.{Was, Over, NoLostInside, Sub, Counted, Falling, now, before, none, skip, take}
+use Rattle.protocol.specs.History.{Tel, Item, Hist, sent, again, noted, handled, over, answered, gaveUp}
+use Rattle.protocol.specs.Demand.{Was, Over, NoLostInside, Sub, Counted, Falling, now, before, none, skip, take}
 
 module _ {T A : Type 0} where
   -- the desk noted a lost line after it handled x

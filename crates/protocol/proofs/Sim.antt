@@ -4,15 +4,15 @@ use mathlib.Core.Bool.{Bool, true, false}
 use mathlib.Core.List.{List, [], _∷_}
 use Prim.Native.Nat.{ℕ}
 use Rattle.laws.proofs.Truths.{clash}
-use Rattle.demand3.specs.History.{Tel, Hist, over, again}
-use Rattle.demand3.specs.Demand.{Promise, Reported, Spoken}
-use Rattle.demand3.specs.Ends.{Did, Said, Ends, Line, Ev, Sys, silent, says, handles, empty, there, back, sys, lineAfter, telAfter, histAfter}
-use Rattle.demand3.specs.Ends.{noting, lineSaid, histSaid, mdo, ddo, ifRefused, step, run, start, ran, happened}
-use Rattle.demand3.specs.Rules.{Reading, MView, DView, First, MActs, MHears, DHears, bad, frame, free, waits, view, repeatedAnswer}
-use Rattle.demand3.proofs.Stepwise.{Held}
-use Rattle.demand3.proofs.Protocol.{Way, Phase, St, Step, Steps, Safe, histOf, safe-steps, safe-start, promised, stop, then, st, quiet, going, coming, idle, busy}
-use Rattle.demand3.proofs.Laws.{Laws}
-use Rattle.demand3.proofs.Tidy.{Heeded, Tidy, tidy-acts, tidy-hears, tidy-first, tidy-over, tidy-empty, tidy-dhears}
+use Rattle.protocol.specs.History.{Tel, Hist, over, again}
+use Rattle.protocol.specs.Demand.{Promise, Reported, Spoken}
+use Rattle.protocol.specs.Ends.{Did, Said, Ends, Line, Ev, Sys, silent, says, handles, empty, there, back, sys, lineAfter, telAfter, histAfter}
+use Rattle.protocol.specs.Ends.{noting, lineSaid, histSaid, mdo, ddo, ifRefused, step, run, start, ran, happened}
+use Rattle.protocol.specs.Rules.{Reading, MView, DView, First, MActs, MHears, DHears, bad, frame, free, waits, view, repeatedAnswer}
+use Rattle.protocol.proofs.Stepwise.{Held}
+use Rattle.protocol.proofs.Protocol.{Way, Phase, St, Step, Steps, Safe, histOf, safe-steps, safe-start, promised, stop, then, st, quiet, going, coming, idle, busy}
+use Rattle.protocol.proofs.Laws.{Laws}
+use Rattle.protocol.proofs.Tidy.{Heeded, Tidy, tidy-acts, tidy-hears, tidy-first, tidy-over, tidy-empty, tidy-dhears}
 
 -- what is refused is no good frame
 unheeded : {X : Type 0} {n : Bool} → frame n ≡ bad → X

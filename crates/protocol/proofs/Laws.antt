@@ -2,8 +2,8 @@
 use mathlib.Core.Path.{_≡_}
 use mathlib.Core.Bool.{Bool, true, false}
 use Prim.Native.Nat.{ℕ}
-use Rattle.demand3.specs.Ends.{Ends}
-use Rattle.demand3.specs.Rules.{Reading, MView, DView, First, MActs, MHears, DHears, bad, free, view}
+use Rattle.protocol.specs.Ends.{Ends}
+use Rattle.protocol.specs.Rules.{Reading, MView, DView, First, MActs, MHears, DHears, bad, free, view}
 
 pub record Laws (E : Ends) : Type 1 where
   -- readings, and N with 1 or 2

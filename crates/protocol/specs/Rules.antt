@@ -4,7 +4,7 @@ use mathlib.Core.Path.{_≡_}
 use mathlib.Core.Bool.{Bool, true, false, not}
 use Prim.Native.Nat.{ℕ, _+_}
 use lib.Dec.{T as So}
-use Rattle.demand3.specs.Ends.{Did, Said, nothing, first, resent, got, gave, silent, says, handles}
+use Rattle.protocol.specs.Ends.{Did, Said, nothing, first, resent, got, gave, silent, says, handles}
 
 -- answered: the number changes
 abbrev pub answeredNumber : Bool → Bool

@@ -8,10 +8,10 @@ use lib.Dec.{T as So}
 use lib.ListN.{length}
 use borrow.Author.Tests.{eq-eqb, ne-eqb}
 use Rattle.laws.proofs.Truths.{clash}
-use Rattle.demand3.specs.History.{Tel, Hist, sent, again, noted, handled, over, answered, gaveUp, sents, sendings}
-use Rattle.demand3.specs.Demand.{Reported, Spoken}
-use Rattle.demand3.specs.Ends.{Did, Said, Line, empty, there, back, lineAfter, telAfter, histAfter, noting, lineSaid, histSaid}
-use Rattle.demand3.specs.Rules.{Reading, MView, DView, First, MActs, MHears, DHears, bad, frame, free, waits, view}
+use Rattle.protocol.specs.History.{Tel, Hist, sent, again, noted, handled, over, answered, gaveUp, sents, sendings}
+use Rattle.protocol.specs.Demand.{Reported, Spoken}
+use Rattle.protocol.specs.Ends.{Did, Said, Line, empty, there, back, lineAfter, telAfter, histAfter, noting, lineSaid, histSaid}
+use Rattle.protocol.specs.Rules.{Reading, MView, DView, First, MActs, MHears, DHears, bad, frame, free, waits, view}
 
 module _ {T A : Type 0} where
   -- the ordinals of all sendings are below b

@@ -1,0 +1,4 @@
+pub mod History
+pub mod Demand
+pub mod Ends
+pub mod Rules
