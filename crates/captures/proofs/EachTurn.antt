@@ -14,7 +14,7 @@ use Rattle.captures.proofs.Stands.{Holds, opening, listing, over, Made,
 turned : (s : Stand) (g : Given) → Holds s → MayTurn s g → Taken s g × Made s g (stepOf s g)
 turned s g h may =
     let t = made s g h may in
-    (t .0, subst (Made s g) (wanted (s .lister) (bufferOf s g) (length (g .piece)) (g .out) (s .lister .wants) (wantedIn s g) (t .0) refl refl) (t .1))
+    (t .0, subst (Made s g) (wanted (s .lister) (bufferOf s g) (length (g .piece)) (g .out) (wantedIn s g) (t .0) refl) (t .1))
 
 holds-after : (gs : List Given) (s : Stand) → Holds s → MayRun s gs → Holds (standAfter s gs)
 holds-after [] s h may = h

@@ -18,17 +18,18 @@ use Rattle.text.specs.Putting.{puts, placed}
 use Rattle.text.proofs.Puts.{with-room}
 use Rattle.listings.specs.Lines.{lineRoom}
 use Rattle.lister.specs.declared.state.Lister.{Lister}
+use Rattle.lister.specs.declared.state.Task.{Task}
+use Rattle.lister.specs.declared.state.Task.the-variants as task
 use Rattle.lister.specs.declared.state.Wants.{Wants}
 use Rattle.lister.specs.declared.state.Wants.the-variants.{Read, Again, End}
 use Rattle.pieces.specs.Pieces.{linesOf}
-use Rattle.lister.specs.Lister.{lineNamed}
 use Rattle.captures.specs.Captures.{badLine, listingOf}
-use Rattle.lister.specs.Lister.{atFirst, placeFits, listFault, lineFor, ended}
-use Rattle.captures.specs.Turn.{Turned, unnamed, beside, carriedOn, listingOn, readingOn, wantedOf}
+use Rattle.lister.specs.Lister.{atFirst, placeFits, listFault, lineNamed, lineFor, lineTask, readTask, taskFor, ended}
+use Rattle.captures.specs.Turn.{Turned, unnamed, beside, carriedOn, doneBy, wantedOf}
 use Rattle.captures.specs.Runs.{Stand, Given, begun, bufferOf, frontOf, standBehind, MayTurn}
 use Rattle.pieces.proofs.Shifts.{lines-further}
 use Rattle.lister.proofs.Checks.{all-fits, passes}
-use Rattle.captures.proofs.Turning.{none-named, one-named, more-read, all-read}
+use Rattle.lister.proofs.Tasks.{none-named, one-named, more-read, all-read}
 use Rattle.captures.proofs.Going.{Going, Went, went}
 
 -- the line is known, and its listing goes on
@@ -139,8 +140,8 @@ at-hand held buf piece rest h =
 
 -- the first turn
 module _ (buf rest out : List ℕ) (room : lineRoom ≤ length out) where
-  opening-none : Made (begun buf) (record { piece = []; rest = rest; out = out }) (readingOn atFirst rest 0 (0 + 0) out)
-  unfolding readingOn listingOf
+  opening-none : Made (begun buf) (record { piece = []; rest = rest; out = out }) (wantedOf Read atFirst rest 0 out)
+  unfolding readTask listingOf
   opening-none = unnamed-made (begun buf) (record { piece = []; rest = rest; out = out }) room atFirst rest refl refl (λ z. absurd (omega arith))
 
   module _ (d : ℕ) (p : List ℕ) where
@@ -160,18 +161,23 @@ module _ (buf rest out : List ℕ) (room : lineRoom ≤ length out) where
     unfolding lineFor
     first-line = refl
 
-    opening-some : Made (begun buf) some (readingOn atFirst hand (length (d ∷ p)) n out)
+    -- what the first bytes are for
+    opening-task : (x : Task) → x ≡ lineTask (lineFor atFirst (d ∷ p)) → x ≡ taskFor Read atFirst (length (d ∷ p)) (take n hand)
+    opening-task x e = e ∙ more-read atFirst (length (d ∷ p)) (d ∷ p) (λ z. omega arith) ∙ ap (readTask atFirst (length (d ∷ p))) hand-is
+
+    opening-done : (x : Task) → x ≡ lineTask (lineFor atFirst (d ∷ p)) → Made (begun buf) some (doneBy x atFirst hand n out)
+        → Made (begun buf) some (wantedOf Read atFirst hand (length (d ∷ p)) out)
+    opening-done x e made = subst (λ (y : Task). Made (begun buf) some (doneBy y atFirst hand n out)) (opening-task x e) made
+
+    opening-some : Made (begun buf) some (wantedOf Read atFirst hand (length (d ∷ p)) out)
     opening-some =
-        subst (Made (begun buf) some) (more-read atFirst hand n out (length (d ∷ p)) (listingOn atFirst hand n out) (λ z. omega arith) refl)
-        (on-test (eqb (lineNamed d) 0)
-        (λ q. subst (Made (begun buf) some)
-        (none-named atFirst hand n out (lineNamed d) (d ∷ p) (unnamed atFirst out .0) (unnamed atFirst out .1 .0) (unnamed atFirst out .1 .1) hand-is first-line (eqb-true (lineNamed d) 0 q) refl)
+        on-test (eqb (lineNamed d) 0)
+        (λ q. opening-done task.Unnamed (none-named (lineNamed d) (eqb-true (lineNamed d) 0 q) ∙ ap lineTask first-line)
         (unnamed-made (begun buf) some room atFirst hand refl (bad-listing d p (eqb-true (lineNamed d) 0 q)) (λ z more. bad-listing d (p ++ more) (eqb-true (lineNamed d) 0 q))))
-        (λ q. subst (Made (begun buf) some)
-        (one-named atFirst hand n out (lineNamed d) (d ∷ p) (carriedOn atFirst (lineNamed d) hand n out) hand-is first-line (eqb-false (lineNamed d) 0 q) refl)
+        (λ q. opening-done (task.Lists (lineNamed d)) (one-named (lineNamed d) (eqb-false (lineNamed d) 0 q) ∙ ap lineTask first-line)
         (went-made (begun buf) some room (carriedOn atFirst (lineNamed d) hand n out) d p (line-named d q) refl (λ r e. let z : ⊥ = omega (arith, ap length e) in z)
         (went atFirst (lineNamed d) hand n out p [] (omega (arith, length-append (d ∷ p) rest)) (omega arith)
-        (λ b. rw (← hand-is) (lines-further (lineNamed d) 18446744073709551615 1 (d ∷ (p ++ b)) 1 0))))))
+        (λ b. rw (← hand-is) (lines-further (lineNamed d) 18446744073709551615 1 (d ∷ (p ++ b)) 1 0)))))
 
 opening-made : (buf : List ℕ) (g : Given) → MayTurn (begun buf) g → Taken (begun buf) g × Made (begun buf) g (wantedIn (begun buf) g)
 unfolding placeFits
@@ -180,7 +186,7 @@ opening-made buf g may = (not-refused (begun buf) g may fits (omega arith), go (
     fits : placeFits atFirst ≡ true
     fits = refl
 
-    go : (p : List ℕ) → lineRoom ≤ length (g .out) → Made (begun buf) (record { piece = p; rest = g .rest; out = g .out }) (readingOn atFirst (p ++ g .rest) (length p) (0 + length p) (g .out))
+    go : (p : List ℕ) → lineRoom ≤ length (g .out) → Made (begun buf) (record { piece = p; rest = g .rest; out = g .out }) (wantedOf Read atFirst (p ++ g .rest) (length p) (g .out))
     go [] room = opening-none buf (g .rest) (g .out) room
     go (d ∷ p) room = opening-some buf (g .rest) (g .out) room d p
 
@@ -208,11 +214,9 @@ module _ (s : Stand) (g : Given) (digit : ℕ) (body : List ℕ) (l : Lists s di
   line-known : isLine (lineNamed digit) ≡ true
   line-known = rw (l .named) (l .known)
 
-  listing-made : (m .wants ≡ Read → g .piece ≡ [] → ⊥) → Made s g (listingOn m all size (g .out))
-  listing-made n =
-      subst (Made s g)
-      (one-named m all size (g .out) (lineNamed digit) (take (m .held) (s .buf) ++ g .piece) (carriedOn m (lineNamed digit) all size (g .out)) all-read-now (same-line _)
-      (known-line (lineNamed digit) line-known) refl)
+  listing-made : (x : Task) → (m .wants ≡ Read → g .piece ≡ [] → ⊥) → lineTask (lineFor m (take size all)) ≡ x → Made s g (doneBy x m all size (g .out))
+  listing-made x n e =
+      subst (λ (t : Task). Made s g (doneBy t m all size (g .out))) (one-named (lineNamed digit) (known-line (lineNamed digit) line-known) ∙ ap lineTask (same-line (take size all)) ∙ e)
       (went-made s g (may .output) (carriedOn m (lineNamed digit) all size (g .out)) digit (body ++ g .piece) line-known read-now n
       (went m (lineNamed digit) all size (g .out) (body ++ g .piece) (s .written) within (omega (arith, l .place)) onwards))
     where
@@ -242,13 +246,14 @@ module _ (s : Stand) (g : Given) (digit : ℕ) (body : List ℕ) (l : Lists s di
 
   by-wants : (v : Wants) → m .wants ≡ v → Made s g (wantedOf v m all (length (g .piece)) (g .out))
   by-wants End q = absurd (l .going q)
-  by-wants Again q = listing-made (λ r e. let z : _≡_ {A = ℕ} 0 1 = cc in omega arith)
+  by-wants Again q = listing-made (taskFor Again m (length (g .piece)) (take size all)) (λ r e. let z : _≡_ {A = ℕ} 0 1 = cc in omega arith) refl
   by-wants Read q =
       on-test (eqb (length (g .piece)) 0)
-      (λ z. subst (Made s g) (all-read m all size (g .out) (length (g .piece)) (ended m) (eqb-true (length (g .piece)) 0 z) (known-line (m .line) (l .known)) refl)
+      (λ z. subst (λ (t : Task). Made s g (doneBy t m all size (g .out)))
+      (all-read m (length (g .piece)) (take size all) (eqb-true (length (g .piece)) 0 z) (known-line (m .line) (l .known)))
       (ended-made q (empty (g .piece) (eqb-true (length (g .piece)) 0 z))))
-      (λ z. subst (Made s g) (more-read m all size (g .out) (length (g .piece)) (listingOn m all size (g .out)) (eqb-false (length (g .piece)) 0 z) refl)
-      (listing-made (λ r e. eqb-false (length (g .piece)) 0 z (ap length e))))
+      (λ z. listing-made (readTask m (length (g .piece)) (take size all)) (λ r e. eqb-false (length (g .piece)) 0 z (ap length e))
+      (more-read m (length (g .piece)) (take size all) (eqb-false (length (g .piece)) 0 z)))
     where
       empty : (xs : List ℕ) → length xs ≡ 0 → xs ≡ []
       empty [] h = refl

@@ -2,16 +2,17 @@
 use Prim.Native.Nat.{ℕ, _+_, _-_}
 use mathlib.Core.Bool.{cond}
 use mathlib.Core.List.{List}
-use lib.Dec.{eqb}
 use lib.ListN.{length, take}
 use Rattle.reading.specs.Answers.{Fault, good, fails, Outcome, written, refused}
 use Rattle.text.specs.Putting.{puts}
 use Rattle.pieces.specs.declared.pieces.Listed.{Listed}
 use Rattle.pieces.specs.Pieces.{wrapped, listPart, keptFrom, tailPut}
 use Rattle.lister.specs.declared.state.Lister.{Lister}
+use Rattle.lister.specs.declared.state.Task.{Task}
+use Rattle.lister.specs.declared.state.Task.the-variants.{Lists, Unnamed, Over}
 use Rattle.lister.specs.declared.state.Wants.{Wants}
-use Rattle.lister.specs.declared.state.Wants.the-variants.{Read, Again, End}
-use Rattle.lister.specs.Lister.{listFault, lineFor, ended}
+use Rattle.lister.specs.declared.state.Wants.the-variants.{Read, Again}
+use Rattle.lister.specs.Lister.{listFault, taskFor, ended}
 use Rattle.captures.specs.Captures.{badLine}
 
 -- the state behind a turn, its answer, the buffer and the output
@@ -45,25 +46,15 @@ carried m line buf n (listed, out) =
 unfoldable pub carriedOn : Lister → ℕ → List ℕ → ℕ → List ℕ → Turned
 carriedOn m line buf n out = carried m line buf n (listPart line (m .ordinal) (m .base) (take n buf) (m .next) out)
 
--- where the line is known
-unfoldable pub listingOn : Lister → List ℕ → ℕ → List ℕ → Turned
-listingOn m buf n out =
-    cond (eqb (lineFor m (take n buf)) 0)
-    (beside buf (unnamed m out))
-    (carriedOn m (lineFor m (take n buf)) buf n out)
+-- what a turn does with the first n bytes
+abbrev pub doneBy : Task → Lister → List ℕ → ℕ → List ℕ → Turned
+doneBy (Lists line) m buf n out = carriedOn m line buf n out
+doneBy Unnamed m buf n out = beside buf (unnamed m out)
+doneBy Over m buf n out = (ended m, (written 0, (buf, out)))
 
--- a read of nothing ends the listing
-unfoldable pub readingOn : Lister → List ℕ → ℕ → ℕ → List ℕ → Turned
-readingOn m buf got n out =
-    cond (eqb got 0)
-    (cond (eqb (m .line) 0) (beside buf (unnamed m out)) (ended m, (written 0, (buf, out))))
-    (listingOn m buf n out)
-
--- what a turn does, by what was wanted
+-- the bytes at hand are those held and those got
 abbrev pub wantedOf : Wants → Lister → List ℕ → ℕ → List ℕ → Turned
-wantedOf Read m buf got out = readingOn m buf got (m .held + got) out
-wantedOf Again m buf got out = listingOn m buf (m .held + got) out
-wantedOf End m buf got out = (m, (written 0, (buf, out)))
+wantedOf w m buf got out = doneBy (taskFor w m got (take (m .held + got) buf)) m buf (m .held + got) out
 
 -- a refused turn changes nothing
 abbrev pub unlessRefused : Fault → Lister → List ℕ → List ℕ → Turned → Turned

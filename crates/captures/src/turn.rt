@@ -2,10 +2,11 @@
 ghost use mathlib.Core.Path.{_≡_};
 ghost use Rattle.reading.specs.Answers.{outcomeOf};
 ghost use Rattle.captures.specs.Captures.{badLine};
-ghost use Rattle.captures.specs.Turn.{unnamed, carriedOn, listingOn, readingOn, listOf};
+ghost use Rattle.captures.specs.Turn.{unnamed, carriedOn, listOf};
 use characters::slices::less;
 use characters::slices::part;
 use lister::state::Lister;
+use lister::state::Task;
 use lister::state::Wants;
 use pieces::pieces::keep_tail;
 use pieces::pieces::kept_from;
@@ -79,33 +80,6 @@ fn carry_on(lister: Lister, line: u8, buf: &mut [u8], n: usize, out: &mut [u8]) 
     }
 }
 
-// Lists on, where the line is known.
-fn list_on(lister: Lister, buf: &mut [u8], n: usize, out: &mut [u8]) -> Step
-    ensures { λ r. ⌜ (r .lister, (outcomeOf (r .answer), (now (buf .exit), now (out .exit)))) ≡ listingOn lister (now (buf .entry)) n (now (out .entry)) ⌝ }
-{
-    let line = lister.line_for(part(buf, 0, n));
-    if line == 0 {
-        return unnamed(lister, out);
-    }
-    carry_on(lister, line, buf, n, out)
-}
-
-// A read of nothing ends the listing.
-fn read_on(lister: Lister, buf: &mut [u8], got: usize, n: usize, out: &mut [u8]) -> Step
-    ensures { λ r. ⌜ (r .lister, (outcomeOf (r .answer), (now (buf .exit), now (out .exit)))) ≡ readingOn lister (now (buf .entry)) got n (now (out .entry)) ⌝ }
-{
-    if got != 0 {
-        return list_on(lister, buf, n, out);
-    }
-    if lister.line == 0 {
-        return unnamed(lister, out);
-    }
-    Step {
-        lister: lister.ended(),
-        answer: Writing::Written(0),
-    }
-}
-
 // A turn: got bytes were read behind those held, and lines are put from the front of the output.
 pub fn list(lister: Lister, buf: &mut [u8], got: usize, out: &mut [u8]) -> Step
     ensures { λ r. ⌜ (r .lister, (outcomeOf (r .answer), (now (buf .exit), now (out .exit)))) ≡ listOf lister (now (buf .entry)) got (now (out .entry)) ⌝ }
@@ -118,12 +92,11 @@ pub fn list(lister: Lister, buf: &mut [u8], got: usize, out: &mut [u8]) -> Step
         };
     }
     let n = lister.held + got;
-    let wants = lister.wants;
-    match wants {
-        Wants::Read => read_on(lister, buf, got, n, out),
-        Wants::Again => list_on(lister, buf, n, out),
-        Wants::End => Step {
-            lister,
+    match lister.task(got, part(buf, 0, n)) {
+        Task::Lists(line) => carry_on(lister, line, buf, n, out),
+        Task::Unnamed => unnamed(lister, out),
+        Task::Over => Step {
+            lister: lister.ended(),
             answer: Writing::Written(0),
         },
     }

@@ -1,4 +1,4 @@
--- The state of a listing between two turns, and what refuses a turn (01 'Bench cases', 'Numbered answers'). Assumes nothing.
+-- The state of a listing between two turns, what refuses a turn, and what a turn does (01 'Bench cases', 'Numbered answers'). Assumes nothing.
 use Prim.Native.Nat.{ℕ, _-_, _^_}
 use Prim.Native.Char.{code}
 use mathlib.Core.Bool.{Bool, cond}
@@ -12,7 +12,10 @@ use Rattle.records.specs.Refusals.{no}
 use Rattle.reading.specs.Answers.{Fault, good, fails}
 use Rattle.listings.specs.Lines.{lineRoom}
 use Rattle.lister.specs.declared.state.Lister.{Lister}
-use Rattle.lister.specs.declared.state.Wants.the-variants.{Read, End}
+use Rattle.lister.specs.declared.state.Task.{Task}
+use Rattle.lister.specs.declared.state.Task.the-variants.{Lists, Unnamed, Over}
+use Rattle.lister.specs.declared.state.Wants.{Wants}
+use Rattle.lister.specs.declared.state.Wants.the-variants.{Read, Again, End}
 
 -- ordinals go from 1; the digit stands before offset 0, and the listing goes on behind it
 abbrev pub atFirst : Lister
@@ -37,6 +40,20 @@ lineNamed digit = cond (isLine (digit - code "0")) (digit - code "0") 0
 -- the line: the state's, or the one that the first byte names; 0 where that names none or there is no byte
 unfoldable pub lineFor : Lister → List ℕ → ℕ
 lineFor m s = cond (eqb (m .line) 0) (lineNamed (getD s 0 0)) (m .line)
+
+-- what a turn does on a line
+unfoldable pub lineTask : ℕ → Task
+lineTask line = cond (eqb line 0) Unnamed (Lists line)
+
+-- a read of nothing ends the listing
+unfoldable pub readTask : Lister → ℕ → List ℕ → Task
+readTask m got s = cond (eqb got 0) (cond (eqb (m .line) 0) Unnamed Over) (lineTask (lineFor m s))
+
+-- what a turn does, by what was wanted
+abbrev pub taskFor : Wants → Lister → ℕ → List ℕ → Task
+taskFor Read m got s = readTask m got s
+taskFor Again m got s = lineTask (lineFor m s)
+taskFor End m got s = Over
 
 -- all is said
 abbrev pub ended : Lister → Lister

@@ -1,7 +1,7 @@
-// The state of a listing between two turns, and what refuses a turn (01 'Bench cases', 'Numbered answers').
+// The state of a listing between two turns, what refuses a turn, and what a turn does (01 'Bench cases', 'Numbered answers').
 ghost use mathlib.Core.Path.{_≡_};
 ghost use Rattle.reading.specs.Answers.{faultOf};
-ghost use Rattle.lister.specs.Lister.{atFirst, placeFits, listFault, lineNamed, lineFor, ended};
+ghost use Rattle.lister.specs.Lister.{atFirst, placeFits, listFault, lineNamed, lineFor, lineTask, readTask, taskFor, ended};
 use characters::marks::LONGEST;
 use characters::slices::byte_at;
 use forms::lines::is_line;
@@ -27,6 +27,13 @@ pub struct Lister {
     pub wants: Wants,
 }
 
+// What a turn does: it lists on a line, says that no line is named, or has nothing left to list.
+pub enum Task {
+    Lists(u8),
+    Unnamed,
+    Over,
+}
+
 // The line that a capture's first byte names, 0 where it names none.
 pub fn line_named(digit: u8) -> u8
     ensures { λ r. ⌜ r ≡ lineNamed digit ⌝ }
@@ -36,6 +43,16 @@ pub fn line_named(digit: u8) -> u8
     }
     let line = digit - b'0';
     if is_line(line) { line } else { 0 }
+}
+
+// What a turn does on a line.
+fn line_task(line: u8) -> Task
+    ensures { λ r. ⌜ r ≡ lineTask line ⌝ }
+{
+    if line == 0 {
+        return Task::Unnamed;
+    }
+    Task::Lists(line)
 }
 
 impl Lister {
@@ -99,6 +116,31 @@ impl Lister {
             return line_named(byte_at(s, 0));
         }
         self.line
+    }
+
+    // What a turn does behind a read: a read of nothing ends the listing.
+    fn read_task(self, got: usize, s: &[u8]) -> Task
+        ensures { λ r. ⌜ r ≡ readTask self got (now (s .entry)) ⌝ }
+    {
+        if got != 0 {
+            return line_task(self.line_for(s));
+        }
+        if self.line == 0 {
+            return Task::Unnamed;
+        }
+        Task::Over
+    }
+
+    // What a turn does, with so many bytes got and these at hand.
+    pub fn task(self, got: usize, s: &[u8]) -> Task
+        ensures { λ r. ⌜ r ≡ taskFor (self .wants) self got (now (s .entry)) ⌝ }
+    {
+        let wants = self.wants;
+        match wants {
+            Wants::Read => self.read_task(got, s),
+            Wants::Again => line_task(self.line_for(s)),
+            Wants::End => Task::Over,
+        }
     }
 
     // All is said.

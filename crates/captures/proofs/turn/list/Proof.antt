@@ -1,10 +1,12 @@
--- `list` checks 15 and 14, and does what was wanted. Assumes nothing.
-use mathlib.Core.Path.{refl, sym, ap, _∙_}
+-- `list` checks 15 and 14, and does its task. Assumes nothing.
+use mathlib.Core.Path.{sym, ap, _∙_}
 use native.Mathlib.Omega.{arith}
 use denote.Ref.{now}
-use Rattle.reading.specs.Answers.{faultOf}
+use Rattle.reading.specs.Answers.{written, faultOf}
+use Rattle.lister.specs.declared.state.Lister.{Lister}
 use Rattle.lister.proofs.Checks.{held-within, in-range}
-use Rattle.captures.proofs.Turning.{refused-turn, wanted}
+use Rattle.captures.specs.Turn.{Turned, beside}
+use Rattle.captures.proofs.Turning.{refused-turn, tasked}
 use borrow.Author.Needs.{needs}
 use Rattle.captures.proofs.turn.list.Statement.{statement}
 use Rattle.captures.proofs.turn.list.Tie as tie
@@ -29,20 +31,29 @@ add-n c =
     let g = in-range (a .lister) _ (a .got) _ (sym (ap faultOf (c .before .enum-told .given .1)) ∙ c .before .before .before .list-check .ensures) in
     omega (arith, held-within (a .lister) _ (a .got) g)
 
+part-requires : tie.Need-part-requires
+part-requires c κs = search needs
+
+task-requires : tie.Need-task-requires
+task-requires c κs = search needs
+
+enum-known-line : tie.Need-enum-known-line
+enum-known-line c = search needs
+
+carry-on-requires : tie.Need-carry-on-requires
+carry-on-requires c κs = search needs
+
 enum-told-2 : tie.Need-enum-told-2
 enum-told-2 c = search needs
 
-read-on-requires : tie.Need-read-on-requires
-read-on-requires c κs = search needs
+unnamed-requires : tie.Need-unnamed-requires
+unnamed-requires c κs = search needs
 
 enum-told-3 : tie.Need-enum-told-3
 enum-told-3 c = search needs
 
-list-on-requires : tie.Need-list-on-requires
-list-on-requires c κs = search needs
-
-enum-told-4 : tie.Need-enum-told-4
-enum-told-4 c = search needs
+ended-requires : tie.Need-ended-requires
+ended-requires c κs = search needs
 
 same-length : tie.Need-same-length
 same-length c = search needs
@@ -52,13 +63,13 @@ same-length-2 c = search needs
 
 returns-2 : tie.Need-returns-2
 returns-2 c =
-    let a = c .before .before .before .before .before .before .before .before .before .before .before .before .before .before .before .args in
-    let list-check = c .before .before .before .before .before .before .before .before .before .before .before .before .list-check in
-    let enum-told = c .before .before .before .before .before .before .before .before .before .before .enum-told in
-    let enum-told2 = c .before .before .before .before .before .before .before .enum-told2 in
-    let read-on = c .before .before .before .before .read-on in
-    wanted (a .lister) (now (a .buf)) (a .got) (now (a .out)) _ _ (sym (ap faultOf (enum-told .given .1)) ∙ list-check .ensures) (enum-told2 .given .1)
-    (read-on .ensures)
+    let a = c .before .before .before .before .before .before .before .before .before .before .before .before .before .before .before .before .before .before .before .args in
+    let list-check = c .before .before .before .before .before .before .before .before .before .before .before .before .before .before .before .before .list-check in
+    let enum-told = c .before .before .before .before .before .before .before .before .before .before .before .before .before .before .enum-told in
+    let part = c .before .before .before .before .before .before .before .before .before .before .before .part in
+    let task = c .before .before .before .before .before .before .before .before .before .before .task in
+    tasked (a .lister) (now (a .buf)) (a .got) (now (a .out)) _ _ _ _ (sym (ap faultOf (enum-told .given .1)) ∙ list-check .ensures) (part .ensures) (task .ensures)
+    (c .before .before .before .before .before .before .before .before .line .given .1) (c .before .before .before .before .carry-on .ensures)
 
 same-length-3 : tie.Need-same-length-3
 same-length-3 c = search needs
@@ -71,18 +82,23 @@ returns-3 c =
     let a = c .before .before .before .before .before .before .before .before .before .before .before .before .before .before .before .args in
     let list-check = c .before .before .before .before .before .before .before .before .before .before .before .before .list-check in
     let enum-told = c .before .before .before .before .before .before .before .before .before .before .enum-told in
-    let enum-told3 = c .before .before .before .before .before .before .before .enum-told3 in
-    let list-on = c .before .before .before .before .list-on in
-    wanted (a .lister) (now (a .buf)) (a .got) (now (a .out)) _ _ (sym (ap faultOf (enum-told .given .1)) ∙ list-check .ensures) (enum-told3 .given .1)
-    (list-on .ensures)
+    let part = c .before .before .before .before .before .before .before .part in
+    let task = c .before .before .before .before .before .before .task in
+    tasked (a .lister) (now (a .buf)) (a .got) (now (a .out)) _ _ _ _ (sym (ap faultOf (enum-told .given .1)) ∙ list-check .ensures) (part .ensures) (task .ensures)
+    (c .before .before .before .before .enum-told2 .given .1) (ap (beside (now (a .buf))) (c .before .before .unnamed .ensures))
+
+same-length-5 : tie.Need-same-length-5
+same-length-5 c = search needs
 
 returns-4 : tie.Need-returns-4
 returns-4 c =
-    let a = c .before .before .before .before .before .before .before .before .args in
-    let list-check = c .before .before .before .before .before .list-check in
-    let enum-told = c .before .before .before .enum-told in
-    wanted (a .lister) (now (a .buf)) (a .got) (now (a .out)) _ _ (sym (ap faultOf (enum-told .given .1)) ∙ list-check .ensures) (c .enum-told4 .given .1)
-    refl
+    let a = c .before .before .before .before .before .before .before .before .before .before .before .before .args in
+    let list-check = c .before .before .before .before .before .before .before .before .before .list-check in
+    let enum-told = c .before .before .before .before .before .before .before .enum-told in
+    let part = c .before .before .before .before .part in
+    let task = c .before .before .before .task in
+    tasked (a .lister) (now (a .buf)) (a .got) (now (a .out)) _ _ _ _ (sym (ap faultOf (enum-told .given .1)) ∙ list-check .ensures) (part .ensures) (task .ensures)
+    (c .before .enum-told3 .given .1) (ap {B = Turned} (λ (l : Lister). (l, (written 0, (now (a .buf), now (a .out))))) (c .ended .ensures))
 
 pub list-spec : {M : Type 1} → statement M
 list-spec =
@@ -93,15 +109,19 @@ list-spec =
     returns
     enum-told
     add-n
+    part-requires
+    task-requires
+    enum-known-line
+    carry-on-requires
     enum-told-2
-    read-on-requires
+    unnamed-requires
     enum-told-3
-    list-on-requires
-    enum-told-4
+    ended-requires
     same-length
     same-length-2
     returns-2
     same-length-3
     same-length-4
     returns-3
+    same-length-5
     returns-4)
