@@ -41,6 +41,10 @@ inMode kind at b = cond (eqb at 0) (eqb b (code ":")) (operational kind b)
 abbrev pub inWatch : ℕ → ℕ → ℕ → Bool
 inWatch kind at b = cond (eqb at 0) (eqb b (code ":")) (either (eqb b (code " ")) (operational kind b))
 
+-- W and X are each F, 1 or 6
+abbrev pub inEffect : ℕ → Bool
+inEffect b = oneOf (codes "F16") b
+
 -- B in r names the wanted type, the slave's data type on the line; B in t is any character of the set
 abbrev pub inRequest : ℕ → ℕ → ℕ → Bool
 inRequest line kind b = cond (eqb kind (code "r")) (eqb b (dataType line)) (inSet b)
@@ -64,8 +68,7 @@ permits line kind letter at b =
     (cond (eqb letter (code "N")) (either (eqb b (code "A")) (from (code "1") (code "2") b))
     (cond (eqb letter (code "M")) (inMode kind at b)
     (cond (eqb letter (code "V")) (inWatch kind at b)
-    -- W and X are each F, 1 or 6
-    (cond (oneOf (codes "WX") letter) (oneOf (codes "F16") b)
+    (cond (oneOf (codes "WX") letter) (inEffect b)
     -- Y is one of 0 to 9 and A to V
     (cond (eqb letter (code "Y")) (either (from (code "0") (code "9") b) (from (code "A") (code "V") b))
     -- Z is 0 to 7

@@ -1,6 +1,6 @@
 // What each packet permits (01 'Telegram forms', 'Values'): a match over the packet letter, with the value's bytes beside it.
 ghost use mathlib.Core.Path.{_≡_};
-ghost use Rattle.packets.specs.Packets.{leadOf, isDecimal, permits, ruled, permitsNumber, digit, inChannel, inPosition, operational, inMode, inWatch, inRequest, inApproval};
+ghost use Rattle.packets.specs.Packets.{leadOf, isDecimal, permits, ruled, permitsNumber, digit, inChannel, inPosition, operational, inMode, inWatch, inEffect, inRequest, inApproval};
 use characters::characters::in_set;
 use forms::lines::is_key;
 use forms::lines::line_of;
@@ -23,17 +23,10 @@ pub fn is_decimal(letter: u8) -> bool
     ensures { λ r. ⌜ r ≡ isDecimal letter ⌝ }
 {
     match letter {
-        b'L' => true,
-        b'%' => true,
-        b'H' => true,
-        b'E' => true,
-        b'S' => true,
-        b'D' => true,
-        b'C' => true,
-        b'T' => true,
-        b'R' => true,
-        b'F' => true,
-        b'P' => true,
+        b'L' | b'%' | b'H' | b'E' => true,
+        b'S' | b'D' => true,
+        b'C' | b'T' | b'R' => true,
+        b'F' | b'P' => true,
         _ => false,
     }
 }
@@ -48,19 +41,14 @@ fn is_digit(b: u8) -> bool
 }
 
 // Whether the byte at a place of a value is permitted: by line, telegram type and packet letter.
+// Letters that follow each other in the alphabet, as C and D, stand in different arms, since one arm would test them as a range.
 pub fn permits_byte(line: u8, kind: u8, letter: u8, at: usize, b: u8) -> bool
     ensures { λ r. ⌜ r ≡ permits line kind letter at b ⌝ }
 {
     match letter {
-        b'L' => is_digit(b),
-        b'%' => is_digit(b),
-        b'H' => is_digit(b),
-        b'E' => is_digit(b),
-        b'S' => is_digit(b),
-        b'D' => is_digit(b),
-        b'C' => is_digit(b),
-        b'T' => is_digit(b),
-        b'R' => is_digit(b),
+        b'L' | b'%' | b'H' | b'E' => is_digit(b),
+        b'S' | b'D' => is_digit(b),
+        b'C' | b'T' | b'R' => is_digit(b),
         b'F' => in_channel(at, b),
         b'P' => in_position(at, b),
         b'm' => match b {
@@ -68,8 +56,7 @@ pub fn permits_byte(line: u8, kind: u8, letter: u8, at: usize, b: u8) -> bool
             _ => false,
         },
         b'U' => match b {
-            b'+' => true,
-            b'-' => true,
+            b'+' | b'-' => true,
             _ => false,
         },
         b'N' => match b {
@@ -79,18 +66,8 @@ pub fn permits_byte(line: u8, kind: u8, letter: u8, at: usize, b: u8) -> bool
         },
         b'M' => in_mode(kind, at, b),
         b'V' => in_watch(kind, at, b),
-        b'W' => match b {
-            b'F' => true,
-            b'1' => true,
-            b'6' => true,
-            _ => false,
-        },
-        b'X' => match b {
-            b'F' => true,
-            b'1' => true,
-            b'6' => true,
-            _ => false,
-        },
+        b'W' => in_effect(b),
+        b'X' => in_effect(b),
         b'Y' => match b {
             b'0'..=b'9' => true,
             b'A'..=b'V' => true,
@@ -160,6 +137,16 @@ fn in_watch(kind: u8, at: usize, b: u8) -> bool
         true
     } else {
         is_operational(kind, b)
+    }
+}
+
+// W and X, the two effects, are each F, 1 or 6.
+fn in_effect(b: u8) -> bool
+    ensures { λ r. ⌜ r ≡ inEffect b ⌝ }
+{
+    match b {
+        b'F' | b'1' | b'6' => true,
+        _ => false,
     }
 }
 

@@ -218,18 +218,19 @@ fn radio_of(v: [u32; 10]) -> Radio
 pub fn record_of(kind: u8, v: [u32; 10]) -> Record
     ensures { λ r. ⌜ r ≡ recordOf kind v ⌝ }
 {
+    let first = v[0];
     match kind {
-        b'N' => Record::Rejected(v[0]),
-        b'r' => Record::Request(v[0]),
-        b't' => Record::Idling(v[0]),
-        b'c' => Record::Test(v[0]),
-        b'5' => Record::Stop(v[0]),
-        b'o' => Record::RadioFault(v[0]),
-        b'G' => Record::Fault(v[0]),
-        b'F' => Record::Position(v[0]),
-        b'n' => Record::Train(v[0]),
+        b'N' => Record::Rejected(first),
+        b'r' => Record::Request(first),
+        b't' => Record::Idling(first),
+        b'c' => Record::Test(first),
+        b'5' => Record::Stop(first),
+        b'o' => Record::RadioFault(first),
+        b'G' => Record::Fault(first),
+        b'F' => Record::Position(first),
+        b'n' => Record::Train(first),
         b'B' => Record::TrainData {
-            length: v[0],
+            length: first,
             braking: v[1],
             speed: v[2],
             direction: v[3],
@@ -243,6 +244,6 @@ pub fn record_of(kind: u8, v: [u32; 10]) -> Record
             sign: v[8],
             country: v[9],
         },
-        _ => Record::Approved(v[0]),
+        _ => Record::Approved(first),
     }
 }

@@ -5,44 +5,17 @@ use borrow.Author.Needs.{needs}
 use Rattle.records.proofs.records.record_of.Statement.{statement}
 use Rattle.records.proofs.records.record_of.Tie as tie
 
-array-read-t7 : tie.Need-array-read-t7
-array-read-t7 c = search needs
+array-read-first : tie.Need-array-read-first
+array-read-first c = search needs
 
-array-read-t10 : tie.Need-array-read-t10
-array-read-t10 c = search needs
+array-read-t11 : tie.Need-array-read-t11
+array-read-t11 c = search needs
 
-array-read-t13 : tie.Need-array-read-t13
-array-read-t13 c = search needs
+array-read-t14 : tie.Need-array-read-t14
+array-read-t14 c = search needs
 
-array-read-t16 : tie.Need-array-read-t16
-array-read-t16 c = search needs
-
-array-read-t19 : tie.Need-array-read-t19
-array-read-t19 c = search needs
-
-array-read-t22 : tie.Need-array-read-t22
-array-read-t22 c = search needs
-
-array-read-t25 : tie.Need-array-read-t25
-array-read-t25 c = search needs
-
-array-read-t28 : tie.Need-array-read-t28
-array-read-t28 c = search needs
-
-array-read-t31 : tie.Need-array-read-t31
-array-read-t31 c = search needs
-
-array-read-t34 : tie.Need-array-read-t34
-array-read-t34 c = search needs
-
-array-read-t37 : tie.Need-array-read-t37
-array-read-t37 c = search needs
-
-array-read-t40 : tie.Need-array-read-t40
-array-read-t40 c = search needs
-
-array-read-t43 : tie.Need-array-read-t43
-array-read-t43 c = search needs
+array-read-t17 : tie.Need-array-read-t17
+array-read-t17 c = search needs
 
 radio-of-requires : tie.Need-radio-of-requires
 radio-of-requires c κs = search needs
@@ -50,26 +23,23 @@ radio-of-requires c κs = search needs
 radio-of-requires-2 : tie.Need-radio-of-requires-2
 radio-of-requires-2 c κs = search needs
 
-array-read-t50 : tie.Need-array-read-t50
-array-read-t50 c = search needs
+array-read-t24 : tie.Need-array-read-t24
+array-read-t24 c = search needs
 
 radio-of-requires-3 : tie.Need-radio-of-requires-3
 radio-of-requires-3 c κs = search needs
 
-array-read-t55 : tie.Need-array-read-t55
-array-read-t55 c = search needs
+array-read-t29 : tie.Need-array-read-t29
+array-read-t29 c = search needs
 
-array-read-t58 : tie.Need-array-read-t58
-array-read-t58 c = search needs
+array-read-t32 : tie.Need-array-read-t32
+array-read-t32 c = search needs
 
-array-read-t61 : tie.Need-array-read-t61
-array-read-t61 c = search needs
+array-read-t35 : tie.Need-array-read-t35
+array-read-t35 c = search needs
 
-array-read-t64 : tie.Need-array-read-t64
-array-read-t64 c = search needs
-
-array-read-t67 : tie.Need-array-read-t67
-array-read-t67 c = search needs
+array-read-t38 : tie.Need-array-read-t38
+array-read-t38 c = search needs
 
 returns : tie.Need-returns
 unfolding recordOf
@@ -148,28 +118,18 @@ pub record-of-spec : {M : Type 1} → statement M
 record-of-spec =
     tie.close
     (tie.spec
-    array-read-t7
-    array-read-t10
-    array-read-t13
-    array-read-t16
-    array-read-t19
-    array-read-t22
-    array-read-t25
-    array-read-t28
-    array-read-t31
-    array-read-t34
-    array-read-t37
-    array-read-t40
-    array-read-t43
+    array-read-first
+    array-read-t11
+    array-read-t14
+    array-read-t17
     radio-of-requires
     radio-of-requires-2
-    array-read-t50
+    array-read-t24
     radio-of-requires-3
-    array-read-t55
-    array-read-t58
-    array-read-t61
-    array-read-t64
-    array-read-t67
+    array-read-t29
+    array-read-t32
+    array-read-t35
+    array-read-t38
     returns
     returns-2
     returns-3
