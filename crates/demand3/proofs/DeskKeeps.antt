@@ -27,10 +27,10 @@ use Rattle.conduct.proofs.Master.Calls.{rejects}
 use Rattle.desk.specs.Answers.{Done, done, lost}
 use Rattle.desk.specs.State.{inRanges, storedOf, startOf}
 use Rattle.desk.specs.Panel.{losesLine, notedOf, faultless, recordFault, keyFault, withQueued, tickOf, queueOf, setOf, keyOf}
-use Rattle.desk.specs.Queue.{replyTo}
-use Rattle.desk.specs.Hearing.{Hearing, faultedOf, repeatedOf, handledOf, appliedOf, ruling, heardOf, hearOf}
+use Rattle.deskhearing.specs.Queue.{replyTo}
+use Rattle.deskhearing.specs.Hearing.{Hearing, faultedOf, repeatedOf, handledOf, appliedOf, ruling, heardOf, hearOf}
 use Rattle.desk.specs.declared.state.Desk.{Desk}
-use Rattle.desk.proofs.Permitted.{answer-permitted}
+use Rattle.deskhearing.proofs.Permitted.{answer-permitted}
 use Rattle.conduct.proofs.Desk.Stored.{reply-sent}
 use Rattle.conduct.proofs.Desk.Kept as k
 use Rattle.conduct.specs.Desk.Calls as c

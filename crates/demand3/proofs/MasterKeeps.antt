@@ -20,7 +20,7 @@ use Rattle.roundtrips.proofs.Trips.{written-reads}
 use Rattle.master.specs.Answers.{Told}
 use Rattle.master.specs.State.{isFree, sendable, inRanges, withLine, startOf}
 use Rattle.master.specs.Sending.{Behind, sendingOf, offerOf, tickOf}
-use Rattle.master.specs.Hearing.{hearOf}
+use Rattle.masterhearing.specs.Hearing.{hearOf}
 use Rattle.master.specs.declared.state.Master.{Master}
 use Rattle.master.specs.Answers.{Which, again}
 use Rattle.master.proofs.Ranges.{numbered, sendable-permits}

@@ -22,10 +22,10 @@ use Rattle.judging.specs.Rules.{pollOf, isFailure, answersTo, permittedAnswer}
 use Rattle.judging.specs.Judging.{answeredBy, judgeOf}
 use Rattle.master.specs.State.{sendable, inRanges, callFault, startOf}
 use Rattle.master.specs.Sending.{t0Limit, sendingOf, failedOf, offerFault, offerOf, pollingOf, waitingOf, tickOf}
-use Rattle.master.specs.Hearing.{hearOf}
+use Rattle.masterhearing.specs.Hearing.{hearOf}
 use Rattle.desk.specs.State as s
 use Rattle.desk.specs.Panel as p
-use Rattle.desk.specs.Hearing as h
+use Rattle.deskhearing.specs.Hearing as h
 use Rattle.demand3.specs.Runs.{Runs, AllowedRuns}
 
 computed : Runs × AllowedRuns

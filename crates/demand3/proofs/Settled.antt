@@ -22,7 +22,7 @@ use Rattle.roundtrips.proofs.Checks.{accepted-only}
 use Rattle.clock.specs.Counters.{sameNumber, isNumber, numberIn}
 use Rattle.deciding.specs.Deciding.{What, contents, Ruling, silent, fault, repeat, handle, repeats, matterIn, goodFrame, badFrame, ruledBy, rulingIn}
 use Rattle.deciding.proofs.Numbers.{good-checked}
-use Rattle.desk.specs.Hearing.{ruling}
+use Rattle.deskhearing.specs.Hearing.{ruling}
 use Rattle.desk.specs.declared.state.Desk.{Desk}
 use Rattle.protocol.specs.Rules.{frame}
 use Rattle.demand3.proofs.Numbers.{isOne, read, good-frame}

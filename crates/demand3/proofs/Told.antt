@@ -19,7 +19,7 @@ use Rattle.judging.specs.Judging as j
 use Rattle.demand3.specs.Theorems.{Tells, Telling}
 use Rattle.master.specs.State.{isFree, callFault}
 use Rattle.master.specs.Sending.{Behind, t2Limit, unlessRefused, sendingOf, failedOf}
-use Rattle.master.specs.Hearing.{settledOf, judged, hearOf}
+use Rattle.masterhearing.specs.Hearing.{settledOf, judged, hearOf}
 use Rattle.master.specs.declared.state.Master.{Master}
 
 module _ (line : ℕ) (bytes : List ℕ) where

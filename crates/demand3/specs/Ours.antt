@@ -12,16 +12,17 @@ use Rattle.reading.specs.Frame.{frameChecks}
 use Rattle.reading.specs.Reading.{readingOf}
 use Rattle.master.specs.Answers.{Told, refused, nothing, sent, answered, otherKind, givenUp, ignored}
 use Rattle.master.specs.Sending.{Behind, offerOf, tickOf}
-use Rattle.master.specs.Hearing.{hearOf}
+use Rattle.masterhearing.specs.Hearing.{hearOf}
 use Rattle.master.specs.declared.state.Master.{Master}
 use Rattle.master.specs.Answers.{offered, again, poll}
 use Rattle.master.specs.State as m
-use Rattle.desk.specs.Hearing.{Hearing}
+use Rattle.deskhearing.specs.Hearing.{Hearing}
 use Rattle.desk.specs.declared.state.Desk.{Desk}
-use Rattle.desk.specs.Answers as a
+use Rattle.desk.specs.Answers as o
+use Rattle.deskhearing.specs.Answers as a
 use Rattle.desk.specs.State as s
 use Rattle.desk.specs.Panel as p
-use Rattle.desk.specs.Hearing as h
+use Rattle.deskhearing.specs.Hearing as h
 use Rattle.protocol.specs.Ends.{Did, Said, MOut, DNote, DOut, Ends, first, resent, got, gave, silent, says, handles}
 use Rattle.protocol.specs.Ends as e
 
@@ -60,12 +61,12 @@ abbrev pub hearingOf : List ℕ → Hearing → DOut Desk (List ℕ)
 hearingOf heard hearing = record { d = hearing .0; noted = lostIn (hearing .1); said = saidOf heard (hearing .1) (hearing .2) }
 
 -- the same for a tick of the desk
-abbrev pub isLost : a.Done → Bool
-isLost a.done = false
-isLost a.lost = true
-isLost (a.refused x) = false
+abbrev pub isLost : o.Done → Bool
+isLost o.done = false
+isLost o.lost = true
+isLost (o.refused x) = false
 
-abbrev pub tickingOf : Desk × a.Done → DNote Desk
+abbrev pub tickingOf : Desk × o.Done → DNote Desk
 tickingOf step = record { d = step .0; noted = isLost (step .1) }
 
 -- a call of the panel: it queues a record, sets one for r, or sets the key position

@@ -10,7 +10,7 @@ use Rattle.reading.specs.Answers as w
 use Rattle.reading.specs.Reading.{readingOf}
 use Rattle.master.specs.Answers.{Told, nothing, sent, answered, otherKind, givenUp, ignored}
 use Rattle.master.specs.Answers as t
-use Rattle.master.specs.Hearing.{hearOf}
+use Rattle.masterhearing.specs.Hearing.{hearOf}
 use Rattle.master.specs.declared.state.Master.{Master}
 use Rattle.protocol.specs.Demand.{NoLostInside, Promise, Reported, Spoken}
 use Rattle.protocol.specs.Ends.{Ev, ran}

@@ -1,5 +1,2 @@
-pub mod Leaving
 pub mod Ranges
 pub mod Calls
-pub mod Permitted
-pub mod Sendings

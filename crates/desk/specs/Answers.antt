@@ -1,11 +1,6 @@
--- What the desk's calls answer, in the paper's numbers and values (01 'Numbered answers', 'Link rules'). Assumes nothing.
-use Prim.Native.Nat.{ℕ}
-use Prim.Native.Char.{code}
-use mathlib.Core.Bool.{Bool}
+-- What the desk's calls that hear nothing answer, in the paper's numbers and values (01 'Numbered answers', 'Link rules'). Assumes nothing.
 use Rattle.records.specs.Refusals.{No, refusalOf}
-use Rattle.replying.specs.Replying.{Origin, originOf}
 use Rattle.desk.specs.declared.answers.Outcome as o
-use Rattle.desk.specs.declared.answers.Heard as h
 
 -- done; done, with the line noted lost; or a refusal
 pub data Done : Type 0 where
@@ -17,19 +12,3 @@ abbrev pub doneOf : o.Outcome → Done
 doneOf o.the-variants.Done = done
 doneOf o.the-variants.Lost = lost
 doneOf (o.the-variants.Refused x) = refused (refusalOf x)
-
--- what a hearing answers: a refusal; or, with whether the line was noted lost, that it is silent on a reading's refusal, sends N with what
--- it carries, or handles; or that it repeats. A sending ends with the number of its bytes
-pub data Told : Type 0 where
-  refused : No → Told
-  silent : Bool → No → Told
-  fault : Bool → ℕ → ℕ → Told
-  repeat : ℕ → Told
-  handled : Bool → Origin → ℕ → Told
-
-abbrev pub toldOf : h.Heard → Told
-toldOf (h.the-variants.Refused x) = refused (refusalOf x)
-toldOf (h.the-variants.Silent noted x) = silent noted (refusalOf x)
-toldOf (h.the-variants.Fault noted n) = fault noted (code "1") n
-toldOf (h.the-variants.Repeat n) = repeat n
-toldOf (h.the-variants.Handled noted source n) = handled noted (originOf source) n

@@ -71,7 +71,7 @@ impl Desk {
     }
 
     // Whether the state is in its ranges; places past the count and stored bytes are not looked at.
-    pub(crate) fn in_ranges(self) -> bool
+    pub fn in_ranges(self) -> bool
         ensures { λ r. ⌜ r ≡ inRanges self ⌝ }
     {
         if self.numbers_fit() {

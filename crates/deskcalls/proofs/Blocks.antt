@@ -7,9 +7,9 @@ use denote.Enum.Declared.{tagOf}
 use Rattle.replying.specs.Replying.{originOf}
 use Rattle.replying.specs.declared.replying.Source as s
 use Rattle.replying.proofs.replying.Source as st
-use Rattle.desk.specs.declared.answers.Heard as h
-use Rattle.desk.proofs.answers.Heard as ht
-use Rattle.desk.specs.Answers as d
+use Rattle.deskhearing.specs.declared.answers.Heard as h
+use Rattle.deskhearing.proofs.answers.Heard as ht
+use Rattle.deskhearing.specs.Answers as d
 use Rattle.deskcalls.specs.Desks.{panelBlock, toldBlock}
 
 -- an answer that does not go with a record for the panel

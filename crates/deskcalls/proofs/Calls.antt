@@ -5,8 +5,8 @@ use Prim.Native.Nat.{ℕ}
 use lib.ListN.{length}
 use borrow.Author.Tests.{eq-eqb, ne-eqb}
 use Rattle.desk.specs.declared.state.Desk.{Desk}
-use Rattle.desk.specs.Answers as d
-use Rattle.desk.specs.Hearing as dh
+use Rattle.deskhearing.specs.Answers as d
+use Rattle.deskhearing.specs.Hearing as dh
 use Rattle.blocks.specs.Record.{recordLength}
 use Rattle.deskstates.specs.Desks as ds
 use Rattle.results.specs.declared.result.In656Result.{In656Result}

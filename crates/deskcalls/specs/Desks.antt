@@ -6,10 +6,11 @@ use lib.Dec.{eqb}
 use lib.ListN.{length}
 use Rattle.replying.specs.Replying.{Origin, requested, queue, key, panel, contents, notMaster, nothingSet}
 use Rattle.desk.specs.declared.state.Desk.{Desk}
-use Rattle.desk.specs.Answers.{Done, Told, refused, silent, fault, repeat, handled}
+use Rattle.desk.specs.Answers.{Done}
+use Rattle.deskhearing.specs.Answers.{Told, refused, silent, fault, repeat, handled}
 use Rattle.desk.specs.State.{startOf}
 use Rattle.desk.specs.Panel.{tickOf, queueOf, setOf, keyOf}
-use Rattle.desk.specs.Hearing.{Hearing, hearOf}
+use Rattle.deskhearing.specs.Hearing.{Hearing, hearOf}
 use Rattle.blocks.specs.Layout.{filled}
 use Rattle.blocks.specs.Record.{recordLength, recordBytes}
 use Rattle.deskstates.specs.Desks.{deskLength, loadOf, saveOf}

@@ -1,14 +1,15 @@
 // The desk on a state of bytes.
 ghost use mathlib.Core.Path.{_≡_};
 ghost use Rattle.replying.specs.Replying.{originOf};
-ghost use Rattle.desk.specs.Answers.{doneOf, toldOf};
+ghost use Rattle.desk.specs.Answers.{doneOf};
+ghost use Rattle.deskhearing.specs.Answers.{toldOf};
 ghost use Rattle.deskcalls.specs.Desks.{stepped, deskStart, deskTick, deskQueue, deskSet, deskKey, panelBlock, toldBlock, heardParts, deskHear};
 use blocks::record::RECORD_LENGTH;
 use blocks::record::put_record;
-use desk::answers::Heard;
-use desk::applying::Hearing;
 use desk::state::Desk;
 use desk::state::Step;
+use deskhearing::answers::Heard;
+use deskhearing::applying::Hearing;
 use deskstates::desks::DESK_LENGTH;
 use deskstates::desks::load;
 use deskstates::desks::save;
@@ -113,10 +114,10 @@ pub fn hear(
     let desk = load(state);
     if block.len() != RECORD_LENGTH {
         let mut none = [0u8; 0];
-        let refused = desk.hear(time, frame, &mut none);
+        let refused = deskhearing::hearing::hear(desk, time, frame, &mut none);
         let answer = refused.answer;
         return of_heard(answer);
     }
-    let hearing = desk.hear(time, frame, out);
+    let hearing = deskhearing::hearing::hear(desk, time, frame, out);
     close_hearing(hearing, state, block)
 }

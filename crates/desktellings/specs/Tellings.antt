@@ -7,7 +7,7 @@ use Rattle.records.specs.declared.records.Record.{Record}
 use Rattle.records.specs.Refusals.{No, refusalOf}
 use Rattle.replying.specs.declared.replying.Source as source
 use Rattle.desk.specs.declared.answers.Outcome as outcome
-use Rattle.desk.specs.declared.answers.Heard as heard
+use Rattle.deskhearing.specs.declared.answers.Heard as heard
 use Rattle.words.specs.Items.{refusalText, recordText}
 use Rattle.words.specs.Amounts.{bytesText}
 

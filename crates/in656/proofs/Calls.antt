@@ -9,7 +9,7 @@ use Rattle.writing.specs.Writing.{Write}
 use Rattle.master.specs.declared.state.Master.{Master}
 use Rattle.master.specs.Answers as m
 use Rattle.master.specs.Sending.{Behind}
-use Rattle.master.specs.Hearing as mh
+use Rattle.masterhearing.specs.Hearing as mh
 use Rattle.blocks.specs.Record.{recordLength}
 use Rattle.masterstates.specs.Masters as ms
 use Rattle.results.specs.declared.result.In656Result.{In656Result}

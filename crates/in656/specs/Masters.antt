@@ -8,7 +8,7 @@ use Rattle.master.specs.declared.state.Master.{Master}
 use Rattle.master.specs.Answers.{Told, refused, nothing, sent, answered, otherKind, givenUp, ignored}
 use Rattle.master.specs.State.{startOf}
 use Rattle.master.specs.Sending.{Behind, offerOf, tickOf}
-use Rattle.master.specs.Hearing.{hearOf}
+use Rattle.masterhearing.specs.Hearing.{hearOf}
 use Rattle.blocks.specs.Layout.{filled}
 use Rattle.blocks.specs.Record.{recordLength, recordBytes}
 use Rattle.masterstates.specs.Masters.{masterLength, loadOf, saveOf}

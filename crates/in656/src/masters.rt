@@ -10,6 +10,7 @@ use inputs::numbers::meaning;
 use master::answers::Answer;
 use master::state::Master;
 use master::state::Step;
+use masterhearing::hearing::hear;
 use masterstates::masters::MASTER_LENGTH;
 use masterstates::masters::load;
 use masterstates::masters::save;
@@ -84,11 +85,11 @@ pub extern "C" fn in656_master_hear(
     let master = load(state);
     if block.len() != RECORD_LENGTH {
         let mut none = [0u8; 0];
-        let refused = master.hear(time, frame, &mut none);
+        let refused = hear(master, time, frame, &mut none);
         let answer = refused.answer;
         return of_answer(answer);
     }
-    let step = master.hear(time, frame, out);
+    let step = hear(master, time, frame, out);
     let answer = step.answer;
     put_answer(answer, block);
     close(step, state)

@@ -20,9 +20,9 @@ use Rattle.judging.specs.Rules.{pollOf}
 use Rattle.master.specs.declared.state.Master.{Master}
 use Rattle.master.specs.declared.state.Step.{Step}
 use Rattle.master.specs.Answers.{Which, offered, again, poll, Ground, silence, toldOf, nothing, sent, givenUp}
-use Rattle.master.specs.State.{isFree, callFault, afterSending, withLine, givenUpState}
-use Rattle.master.specs.Sending.{Behind, t0Limit, t2Limit, sendingOf, failedOf, offerFault, offerOf, pollingOf, waitingOf, tickOf}
-use Rattle.master.proofs.Ranges.{no-pass}
+use Rattle.master.specs.State.{isFree, inRanges, callFault, afterSending, withLine, givenUpState}
+use Rattle.master.specs.Sending.{Behind, t0Limit, t2Limit, sendingOf, failedOf, failOf, offerFault, offerOf, pollingOf, waitingOf, tickOf}
+use Rattle.master.proofs.Ranges.{no-pass, passes}
 use Rattle.master.specs.declared.answers.Answer as a
 
 -- a step with the output behind it
@@ -32,6 +32,10 @@ stepped s out = (s .master, (toldOf (s .answer), out))
 -- a refused call's step
 abbrev pub refusing : Master → Refusal → Step
 refusing m x = record { master = m; answer = a.the-variants.Refused x }
+
+-- the step of a call that does nothing
+abbrev pub unmoved : Master → Step
+unmoved m = record { master = m; answer = a.the-variants.Nothing }
 
 pub sent-off : (which : Which) (m n : Master) (rec : Record) (count at number bytes : ℕ) (out new : List ℕ) → permitsRecord (m .line) rec ≡ true → m .number .0 < 2 → longest ≤ length out
     → n ≡ afterSending m rec count at → number ≡ m .number .0 → (bytes, new) ≡ sendOf (m .line) rec number out → (n, (sent which count bytes, new)) ≡ sendingOf which m rec count at out
@@ -48,6 +52,24 @@ module _ (ground : Ground) (g : Bool) (m : Master) (at : ℕ) (out : List ℕ) w
   pub sent-again : ¬ (m .count ≡ 3) → sendingOf again m (m .rec) (m .count + 1) at out ≡ failedOf ground g m at out
   unfolding failedOf
   sent-again h = rw (ne-eqb (m .count) 3 h)
+
+  pub fail-refused : (x : Refusal) → fails (refusalOf x) ≡ callFault m (length out) → (s : Step) → s ≡ refusing m x → stepped s out ≡ failOf ground g m at out
+  unfolding failOf
+  fail-refused x h s e = rw (e, ← h)
+
+  module _ (k : good ≡ callFault m (length out)) where
+    pub fail-free : m .count ≡ 0 → (s : Step) → s ≡ unmoved m → stepped s out ≡ failOf ground g m at out
+    unfolding failOf
+    fail-free h s e = rw (e, ← k, eq-eqb (m .count) 0 h)
+
+    pub fail-busy : ¬ (m .count ≡ 0) → failedOf ground g m at out ≡ failOf ground g m at out
+    unfolding failOf
+    fail-busy h = rw (← k, ne-eqb (m .count) 0 h)
+
+  -- a state that passes the checks and is not free
+  pub fail-passed : inRanges m ≡ true → isFree m ≡ false → longest ≤ length out → failOf ground g m at out ≡ failedOf ground g m at out
+  unfolding failOf
+  fail-passed h b room = rw (← (passes m (length out) h room), b)
 
 -- 16, then 12, then 13
 module _ (m : Master) (rec : Record) where

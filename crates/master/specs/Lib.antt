@@ -1,4 +1,3 @@
 pub mod Answers
 pub mod State
 pub mod Sending
-pub mod Hearing

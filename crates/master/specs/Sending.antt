@@ -49,6 +49,12 @@ failedOf ground g m at out =
     (givenUpState (withLine m g), (givenUp ground (m .count), out))
     (sendingOf again m (m .rec) (m .count + 1) at out)
 
+-- 15, then 14; a failed sending while not free
+unfoldable pub failOf : Ground → Bool → Master → ℕ → List ℕ → Behind
+failOf ground g m at out =
+    unlessRefused (callFault m (length out)) m out
+    (cond (isFree m) (m, (nothing, out)) (failedOf ground g m at out))
+
 -- the offer: 16 where the master is not free, T2 run out or not; 12 where it does not send the record on this line; 13 where a value is outside its range
 unfoldable pub offerFault : Master → Record → Fault
 offerFault m rec =

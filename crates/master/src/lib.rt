@@ -1,5 +1,4 @@
-// The master of a line, the bench (01 'Link rules').
+// The master of a line, the bench (01 'Link rules'): a state by value, and what it sends.
 pub mod answers;
-pub mod hearing;
 pub mod sending;
 pub mod state;

@@ -8,7 +8,7 @@ ghost use Rattle.reading.specs.Answers.{faultOf};
 ghost use Rattle.characters.specs.Marks.{longest};
 ghost use Rattle.master.specs.Answers.{whichOf, groundOf, toldOf};
 ghost use Rattle.master.specs.State.{isFree, inRanges, withLine, givenUpState};
-ghost use Rattle.master.specs.Sending.{t0Limit, sendingOf, failedOf, offerFault, offerOf, pollingOf, waitingOf, tickOf};
+ghost use Rattle.master.specs.Sending.{t0Limit, sendingOf, failedOf, failOf, offerFault, offerOf, pollingOf, waitingOf, tickOf};
 use crate::answers::Answer;
 use crate::answers::Cause;
 use crate::answers::Sending;
@@ -27,7 +27,7 @@ use values::values::permits_record;
 use writing::sending::send;
 
 // T2's limit, in milliseconds.
-pub(crate) const T2: u32 = 2_000;
+pub const T2: u32 = 2_000;
 
 impl Master {
     // T0's limit, that of the line.
@@ -64,7 +64,7 @@ impl Master {
     }
 
     // A failed sending: sent again with a count of 1 or 2, given up with 3.
-    pub(crate) fn fail(self, cause: Cause, good: bool, at: u32, out: &mut [u8]) -> Step
+    fn failed(self, cause: Cause, good: bool, at: u32, out: &mut [u8]) -> Step
         requires { ⌜ (inRanges self ≡ true) × ((isFree self ≡ false) × (longest ≤ length (now out))) ⌝ }
         ensures { λ r. ⌜ (r .master, (toldOf (r .answer), now (out .exit))) ≡ failedOf (groundOf cause) good self at (now (out .entry)) ⌝ }
     {
@@ -77,6 +77,20 @@ impl Master {
         }
         let rec = self.rec;
         self.send(Sending::Again, rec, count + 1, at, out)
+    }
+
+    // A failed sending of a state that is not free: 15, 14, then as above; while free, nothing.
+    pub fn fail(self, cause: Cause, good: bool, at: u32, out: &mut [u8]) -> Step
+        ensures { λ r. ⌜ (r .master, (toldOf (r .answer), now (out .exit))) ≡ failOf (groundOf cause) good self at (now (out .entry)) ⌝ }
+    {
+        let check = self.call_check(out.len());
+        if let Check::Fails(refusal) = check {
+            return self.refused(refusal);
+        }
+        if self.count == 0 {
+            return self.nothing();
+        }
+        self.failed(cause, good, at, out)
     }
 
     // What refuses an offer: 16, then 12, then 13.
@@ -116,10 +130,7 @@ impl Master {
         ensures { λ r. ⌜ (r .master, (toldOf (r .answer), now (out .exit))) ≡ pollingOf self at (now (out .entry)) ⌝ }
     {
         if !run_out(at, self.t0, self.t0_limit()) {
-            return Step {
-                master: self,
-                answer: Answer::Nothing,
-            };
+            return self.nothing();
         }
         self.send(Sending::Poll, poll_of(self.line), 1, at, out)
     }
@@ -130,12 +141,9 @@ impl Master {
         ensures { λ r. ⌜ (r .master, (toldOf (r .answer), now (out .exit))) ≡ waitingOf self at (now (out .entry)) ⌝ }
     {
         if !run_out(at, self.t2, T2) {
-            return Step {
-                master: self,
-                answer: Answer::Nothing,
-            };
+            return self.nothing();
         }
-        self.fail(Cause::Silence, false, at, out)
+        self.failed(Cause::Silence, false, at, out)
     }
 
     // A tick does at most one thing, by the state it finds.

@@ -98,7 +98,7 @@ impl Master {
     }
 
     // What refuses a call that may send: 15, then 14.
-    pub(crate) fn call_check(self, room: usize) -> Check
+    pub fn call_check(self, room: usize) -> Check
         ensures { λ r. ⌜ faultOf r ≡ callFault self room ⌝ }
     {
         if !self.in_ranges() {
@@ -127,7 +127,7 @@ impl Master {
     }
 
     // The line noted good or lost.
-    pub(crate) fn with_line(self, good: bool) -> Master
+    pub fn with_line(self, good: bool) -> Master
         ensures { λ r. ⌜ r ≡ withLine self good ⌝ }
     {
         let mut m = self;
@@ -146,7 +146,7 @@ impl Master {
     }
 
     // Answered: the number changes.
-    pub(crate) fn answered(self) -> Master
+    pub fn answered(self) -> Master
         ensures { λ r. ⌜ r ≡ answeredState self ⌝ }
     {
         let number = self.number;
@@ -154,8 +154,18 @@ impl Master {
         self.freed(next)
     }
 
+    // A call that does nothing gives the same state.
+    pub(crate) fn nothing(self) -> Step
+        ensures { λ r. ⌜ r ≡ record { master = self; answer = the-variants.Nothing } ⌝ }
+    {
+        Step {
+            master: self,
+            answer: Answer::Nothing,
+        }
+    }
+
     // A refused call gives the same state.
-    pub(crate) fn refused(self, refusal: Refusal) -> Step
+    pub fn refused(self, refusal: Refusal) -> Step
         ensures { λ r. ⌜ r ≡ record { master = self; answer = the-variants.Refused refusal } ⌝ }
     {
         Step {

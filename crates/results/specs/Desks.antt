@@ -2,8 +2,10 @@
 use Prim.Native.Nat.{ℕ}
 use mathlib.Core.Bool.{true}
 use Rattle.replying.specs.Replying.{Origin, requested, queue, key, panel, contents, notMaster, nothingSet}
-use Rattle.desk.specs.Answers.{Done, done, lost, Told, silent, fault, repeat, handled}
+use Rattle.desk.specs.Answers.{Done, done, lost}
+use Rattle.deskhearing.specs.Answers.{Told, silent, fault, repeat, handled}
 use Rattle.desk.specs.Answers as d
+use Rattle.deskhearing.specs.Answers as h
 use Rattle.results.specs.declared.result.In656Result.{In656Result}
 use Rattle.results.specs.Result.{saying, refusing, withContents, withWritten, withLost, withRecord}
 
@@ -63,7 +65,7 @@ handledResult (nothingSet value) = saying deskHandled fromNothing
 
 -- a hearing
 abbrev pub heardResult : Told → In656Result
-heardResult (d.Told.refused x) = refusing x
+heardResult (h.Told.refused x) = refusing x
 heardResult (silent noted x) = withLost (withContents (saying deskSilent 0) x) noted
 heardResult (fault noted value n) = withLost (withWritten (saying deskFault 0) n) noted
 heardResult (repeat n) = withWritten (saying deskRepeat 0) n

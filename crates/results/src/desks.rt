@@ -2,14 +2,15 @@
 ghost use mathlib.Core.Path.{_≡_};
 ghost use Rattle.records.specs.Refusals.{refusalOf};
 ghost use Rattle.replying.specs.Replying.{originOf};
-ghost use Rattle.desk.specs.Answers.{doneOf, toldOf};
+ghost use Rattle.desk.specs.Answers.{doneOf};
+ghost use Rattle.deskhearing.specs.Answers.{toldOf};
 ghost use Rattle.results.specs.Desks.{doneResult, handledResult, heardResult};
 ghost use Rattle.results.specs.Result.{saying, withContents, withWritten, withLost};
 use crate::result::In656Result;
 use crate::result::refuse;
 use crate::result::say;
-use desk::answers::Heard;
 use desk::answers::Outcome;
+use deskhearing::answers::Heard;
 use records::refusals::Refusal;
 use replying::replying::Source;
 

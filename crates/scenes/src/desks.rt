@@ -3,13 +3,13 @@ use crate::rows;
 use crate::rows::Call;
 use crate::show;
 use clock::counters::LastTaken;
-use desk::answers::Heard;
 use desk::answers::Outcome;
-use desk::applying::Hearing;
 use desk::state::Desk;
 use desk::state::Step;
 use desk::state::Waiting;
 use desk::state::Wanted;
+use deskhearing::answers::Heard;
+use deskhearing::applying::Hearing;
 use desktellings::tellings::put_heard;
 use desktellings::tellings::put_outcome;
 use text::putting::put_byte;
@@ -60,7 +60,8 @@ fn hear(d: Desk, row: &[u8], out: &mut [u8]) -> Desk {
     let mut bytes = [0u8; 256];
     let n = rows::heard(row, 4, &mut bytes);
     let mut sent = [b'#'; 128];
-    let hearing = d.hear(
+    let hearing = deskhearing::hearing::hear(
+        d,
         word_value(row, 2),
         rows::first(&bytes, n),
         &mut sent[..room],

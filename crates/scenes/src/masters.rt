@@ -76,7 +76,8 @@ fn hear(m: Master, row: &[u8], out: &mut [u8]) -> Master {
     let mut bytes = [0u8; 256];
     let n = rows::heard(row, 4, &mut bytes);
     let mut sent = [b'#'; 128];
-    let step = m.hear(
+    let step = masterhearing::hearing::hear(
+        m,
         word_value(row, 2),
         rows::first(&bytes, n),
         &mut sent[..room],

@@ -2,10 +2,12 @@
 use mathlib.Core.Path.{_≡_, refl, sym, ap, _∙_}
 use Rattle.replying.specs.Replying.{Origin, requested, queue, key, panel, contents, notMaster, nothingSet, originOf}
 use Rattle.replying.specs.declared.replying.Source as s
-use Rattle.desk.specs.Answers.{Done, done, lost, doneOf, Told, silent, fault, repeat, handled, toldOf}
-use Rattle.desk.specs.Answers as t
+use Rattle.desk.specs.Answers.{Done, done, lost, doneOf}
+use Rattle.deskhearing.specs.Answers.{Told, silent, fault, repeat, handled, toldOf}
+use Rattle.desk.specs.Answers as d
+use Rattle.deskhearing.specs.Answers as t
 use Rattle.desk.specs.declared.answers.Outcome as o
-use Rattle.desk.specs.declared.answers.Heard as h
+use Rattle.deskhearing.specs.declared.answers.Heard as h
 use Rattle.conduct.specs.Desk.Apart.{OneOutcome, OneHeard}
 use Rattle.records.proofs.Apart.{backOf, refusal-back}
 
@@ -13,7 +15,7 @@ use Rattle.records.proofs.Apart.{backOf, refusal-back}
 abbrev outcomeBack : Done → o.Outcome
 outcomeBack done = o.the-variants.Done
 outcomeBack lost = o.the-variants.Lost
-outcomeBack (t.refused x) = o.the-variants.Refused (backOf x)
+outcomeBack (d.refused x) = o.the-variants.Refused (backOf x)
 
 outcome-back : (x : o.Outcome) → outcomeBack (doneOf x) ≡ x
 outcome-back o.the-variants.Done = refl

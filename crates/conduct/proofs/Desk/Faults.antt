@@ -23,11 +23,11 @@ use Rattle.deciding.specs.Deciding as r
 use Rattle.deciding.proofs.Rulings.{bad-sum, bad-sum-byte, bad-low, when-refused}
 use Rattle.deciding.proofs.Numbers.{ruling-number}
 use Rattle.replying.proofs.Permitted.{fault-permitted}
-use Rattle.desk.specs.Answers.{silent, fault}
+use Rattle.deskhearing.specs.Answers.{silent, fault}
 use Rattle.desk.specs.Panel.{losesLine}
-use Rattle.desk.specs.Hearing.{faultedOf, appliedOf, ruling, hearOf}
+use Rattle.deskhearing.specs.Hearing.{faultedOf, appliedOf, ruling, hearOf}
 use Rattle.desk.specs.declared.state.Desk.{Desk}
-use Rattle.desk.proofs.Sendings.{hear-applied}
+use Rattle.deskhearing.proofs.Sendings.{hear-applied}
 use Rattle.conduct.specs.Desk.Calls.{noted, Fine}
 use Rattle.conduct.specs.Desk.Faults.{faultAnswer, SumAnswers, SumReads, OthersSilent}
 use Rattle.conduct.proofs.Desk.Kept.{fits, noted-keeps}

@@ -31,13 +31,13 @@ use Rattle.replying.specs.Fitting.{mayReply, wantedFits}
 use Rattle.replying.specs.Replying.{Origin, Reply, askedOf, polledOf}
 use Rattle.replying.specs.declared.replying.Wanted.{Wanted}
 use Rattle.replying.specs.declared.replying.Wanted.the-variants.{None, Is}
-use Rattle.desk.specs.Answers.{handled}
+use Rattle.deskhearing.specs.Answers.{handled}
 use Rattle.desk.specs.Panel.{losesLine, notedOf}
-use Rattle.desk.specs.Queue.{oldest, replyTo}
-use Rattle.desk.specs.Hearing.{Hearing, faultedOf, repeatedOf, handledOf, appliedOf, ruling, hearOf}
+use Rattle.deskhearing.specs.Queue.{oldest, replyTo}
+use Rattle.deskhearing.specs.Hearing.{Hearing, faultedOf, repeatedOf, handledOf, appliedOf, ruling, hearOf}
 use Rattle.desk.specs.declared.state.Desk.{Desk}
-use Rattle.desk.proofs.Permitted.{oldest-replies}
-use Rattle.desk.proofs.Sendings.{hear-room, hear-applied}
+use Rattle.deskhearing.proofs.Permitted.{oldest-replies}
+use Rattle.deskhearing.proofs.Sendings.{hear-room, hear-applied}
 use Rattle.conduct.specs.Desk.Calls.{Fine, noted}
 use Rattle.conduct.specs.Desk.Polls.{Answers}
 use Rattle.conduct.specs.Desk.Handled.{ReplyRow, contents, notMaster, requested, nothingSet, queue, key, panel, New, RowAnswers, HasRow, OnlyRows, NWithA}

@@ -20,16 +20,16 @@ use Rattle.replying.specs.Fitting.{mayReply, keyFits, wantedFits}
 use Rattle.replying.specs.Replying.{askedOf, polledOf}
 use Rattle.replying.specs.declared.replying.Wanted.{Wanted}
 use Rattle.replying.specs.declared.replying.Wanted.the-variants.{None, Is}
-use Rattle.desk.specs.Answers.{done, lost, fault, repeat}
-use Rattle.desk.specs.Answers as h
+use Rattle.desk.specs.Answers.{done, lost}
+use Rattle.deskhearing.specs.Answers.{fault, repeat}
 use Rattle.replying.specs.Waiting.{waitingFits, keptFits}
 use Rattle.desk.specs.State.{numbersFit, recordsFit, inRanges, fresh, startOf}
 use Rattle.desk.specs.Panel.{losesLine, notedOf, withQueued, withRequested, withKey, tickOf, queueOf, setOf, keyOf}
-use Rattle.desk.specs.Queue.{replyTo, popped, takenBy}
-use Rattle.desk.specs.Hearing.{withStored, marked, restarted, faultedOf, repeatedOf, handledOf, hearOf}
+use Rattle.deskhearing.specs.Queue.{replyTo, popped, takenBy}
+use Rattle.deskhearing.specs.Hearing.{withStored, marked, restarted, faultedOf, repeatedOf, handledOf, hearOf}
 use Rattle.desk.specs.declared.state.Desk.{Desk}
 use Rattle.desk.proofs.Ranges.{Fits, ranges-parts, parts-ranges, noted-ranges, kept-most}
-use Rattle.desk.proofs.Permitted.{answer-permitted}
+use Rattle.deskhearing.proofs.Permitted.{answer-permitted}
 use Rattle.conduct.specs.Desk.Polls.{waiting}
 use Rattle.conduct.proofs.Desk.Waiting.{filled-behind, oldest-taken, every-behind, every-tail}
 use Rattle.conduct.specs.Desk.Calls.{Call, ticks, queues, sets, turns, hears, did, Result, after, run, refusedBy, Fine}

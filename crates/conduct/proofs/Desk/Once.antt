@@ -21,17 +21,17 @@ use Rattle.replying.specs.Replying.{requested, queue, key, contents, notMaster,
 use Rattle.replying.specs.declared.replying.Wanted.{Wanted}
 use Rattle.replying.specs.declared.replying.Wanted.the-variants.{None, Is}
 use Rattle.records.specs.Refusals.{No}
-use Rattle.desk.specs.Answers.{Done, done, fault, repeat, handled}
-use Rattle.desk.specs.Answers as h
+use Rattle.desk.specs.Answers.{Done, done}
+use Rattle.deskhearing.specs.Answers.{fault, repeat, handled}
 use Rattle.desk.specs.State.{startOf}
 use Rattle.desk.specs.Panel.{losesLine, notedOf, withQueued}
-use Rattle.desk.specs.Queue.{oldest, replyTo}
-use Rattle.desk.specs.Hearing.{Hearing, faultedOf, repeatedOf, handledOf}
+use Rattle.deskhearing.specs.Queue.{oldest, replyTo}
+use Rattle.deskhearing.specs.Hearing.{Hearing, faultedOf, repeatedOf, handledOf}
 use Rattle.replying.specs.Waiting.{blank}
 use Rattle.replying.specs.declared.waiting.Waiting.{Waiting}
 use Rattle.desk.specs.declared.state.Desk.{Desk}
 use Rattle.replying.proofs.Permitted.{reply-allowed}
-use Rattle.desk.proofs.Permitted.{oldest-replies}
+use Rattle.deskhearing.proofs.Permitted.{oldest-replies}
 use Rattle.conduct.specs.Desk.Calls.{Call, ticks, queues, sets, turns, hears, did, Result, hearing, after, run, Fine}
 use Rattle.conduct.specs.Desk.Polls.{waiting, Answers}
 use Rattle.conduct.specs.Desk.Once.{records, queuedIn, givenIn, accepted, given, QueuedOnce}

@@ -25,14 +25,14 @@ use Rattle.replying.specs.declared.replying.Wanted.{Wanted}
 use Rattle.replying.specs.declared.replying.Wanted.the-variants.{None, Is}
 use Rattle.replying.specs.Waiting.{blank, shifted}
 use Rattle.desk.specs.Panel.{losesLine, notedOf}
-use Rattle.desk.specs.Queue.{oldest, replyTo, takenBy}
-use Rattle.desk.specs.Hearing.{Hearing, faultedOf, repeatedOf, handledOf, appliedOf, ruling, hearOf}
+use Rattle.deskhearing.specs.Queue.{oldest, replyTo, takenBy}
+use Rattle.deskhearing.specs.Hearing.{Hearing, faultedOf, repeatedOf, handledOf, appliedOf, ruling, hearOf}
 use Rattle.replying.specs.declared.waiting.Waiting.{Waiting}
 use Rattle.desk.specs.declared.state.Desk.{Desk}
 use Rattle.conduct.specs.Desk.Calls.{noted, Fine}
 use Rattle.conduct.specs.Desk.Polls.{waiting, Answers, Same, PollsByT, TPolls, PollOldest, PollEmpty, KeyByLine, OthersLeave}
 use Rattle.conduct.proofs.Desk.Waiting.{oldest-taken, oldest-first}
-use Rattle.desk.proofs.Sendings.{hear-room, hear-applied}
+use Rattle.deskhearing.proofs.Sendings.{hear-room, hear-applied}
 use Rattle.conduct.proofs.Desk.Steps.{never}
 use Rattle.conduct.proofs.Desk.Kept.{fits}
 use Rattle.conduct.proofs.Desk.Handled.{sends-t, HandledAs, read, unread, handled-heard}

@@ -20,11 +20,11 @@ use Rattle.clock.specs.Counters.{isNumber, numberIn}
 use Rattle.deciding.specs.Deciding.{What, contents, Ruling, silent, fault, handle, repeats, matterIn, goodFrame, badFrame, ruledBy, rulingIn}
 use Rattle.deciding.specs.Deciding as r
 use Rattle.deciding.proofs.Rulings.{by-number, good-repeat, when-accepted, when-refused, bad-contents}
-use Rattle.desk.specs.Answers.{repeat}
+use Rattle.deskhearing.specs.Answers.{repeat}
 use Rattle.desk.specs.Panel.{losesLine, notedOf}
-use Rattle.desk.specs.Hearing.{Hearing, faultedOf, repeatedOf, handledOf, appliedOf, ruling, hearOf}
+use Rattle.deskhearing.specs.Hearing.{Hearing, faultedOf, repeatedOf, handledOf, appliedOf, ruling, hearOf}
 use Rattle.desk.specs.declared.state.Desk.{Desk}
-use Rattle.desk.proofs.Sendings.{hear-room, hear-applied}
+use Rattle.deskhearing.proofs.Sendings.{hear-room, hear-applied}
 use Rattle.conduct.specs.Desk.Calls.{noted}
 use Rattle.conduct.specs.Desk.Repeats.{RepeatStored, RepeatTold, ReadAgain, ContentsAgain}
 use Rattle.conduct.proofs.Desk.Steps.{never}

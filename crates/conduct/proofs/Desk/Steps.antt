@@ -22,11 +22,12 @@ use Rattle.deciding.specs.Deciding.{What, Ruling, answersWith}
 use Rattle.deciding.specs.Deciding as r
 use Rattle.deciding.proofs.Numbers.{ruling-number}
 use Rattle.replying.specs.Fitting.{mayReply, keyFits}
-use Rattle.desk.specs.Answers.{Done, done, lost, Told, silent}
+use Rattle.desk.specs.Answers.{Done, done, lost}
+use Rattle.deskhearing.specs.Answers.{Told, silent}
 use Rattle.desk.specs.State.{inRanges}
 use Rattle.desk.specs.Panel.{losesLine, notedOf, withQueued, withRequested, withKey, recordFault, faultless, keyFault, tickOf, queueOf, setOf, keyOf}
-use Rattle.desk.specs.Queue.{replyTo}
-use Rattle.desk.specs.Hearing.{Hearing, faultedOf, repeatedOf, handledOf, appliedOf, ruling, heardOf, hearOf}
+use Rattle.deskhearing.specs.Queue.{replyTo}
+use Rattle.deskhearing.specs.Hearing.{Hearing, faultedOf, repeatedOf, handledOf, appliedOf, ruling, heardOf, hearOf}
 use Rattle.desk.specs.declared.state.Desk.{Desk}
 use Rattle.conduct.specs.Desk.Calls.{Call, ticks, queues, sets, turns, hears, did, heard, Result, saying, hearing, after, noted}
 

@@ -26,14 +26,14 @@ use Rattle.replying.specs.Fitting.{mayReply, wantedFits}
 use Rattle.replying.specs.Replying.{Origin, askedOf, polledOf}
 use Rattle.replying.specs.declared.replying.Wanted.{Wanted}
 use Rattle.replying.specs.declared.replying.Wanted.the-variants.{None, Is}
-use Rattle.desk.specs.Answers.{Told}
-use Rattle.desk.specs.Answers as h
+use Rattle.deskhearing.specs.Answers.{Told}
+use Rattle.deskhearing.specs.Answers as h
 use Rattle.desk.specs.State.{storedOf, startOf}
 use Rattle.desk.specs.Panel.{losesLine, notedOf}
-use Rattle.desk.specs.Queue.{oldest, replyTo}
-use Rattle.desk.specs.Hearing.{faultedOf, repeatedOf, handledOf, hearOf}
+use Rattle.deskhearing.specs.Queue.{oldest, replyTo}
+use Rattle.deskhearing.specs.Hearing.{faultedOf, repeatedOf, handledOf, hearOf}
 use Rattle.desk.specs.declared.state.Desk.{Desk}
-use Rattle.desk.proofs.Permitted.{oldest-replies, answer-permitted}
+use Rattle.deskhearing.proofs.Permitted.{oldest-replies, answer-permitted}
 use Rattle.conduct.specs.Desk.Calls.{Call, hears, heard, Result, after, run, noted, Fine}
 use Rattle.conduct.specs.Desk.Stored.{Holding, StoredTelegram, StoredAsSent}
 use Rattle.conduct.proofs.Desk.Steps.{never, Does, barred, noRoom, ticked, queued, isSet, turned, unmoved, faults, repeats, handled, does}

@@ -24,7 +24,7 @@ use Rattle.master.specs.declared.state.Master.{Master}
 use Rattle.master.specs.Answers.{Which, again, poll, Ground, silence, rejected}
 use Rattle.master.specs.State.{isFree, sendable, inRanges, callFault, withLine, answeredState, givenUpState}
 use Rattle.master.specs.Sending.{Behind, t0Limit, t2Limit, unlessRefused, sendingOf, failedOf, offerFault, offerOf, pollingOf, waitingOf, tickOf}
-use Rattle.master.specs.Hearing.{settledOf, judged, hearOf}
+use Rattle.masterhearing.specs.Hearing.{settledOf, judged, hearOf}
 use Rattle.master.proofs.Ranges.{passed, lined, sendable-both, poll-sendable}
 use Rattle.master.proofs.Sends.{offer-passed}
 use Rattle.conduct.specs.Master.Calls.{Call, offers, ticks, hears, outputOf, after, FirstSending, offered, polled, lineAfter}

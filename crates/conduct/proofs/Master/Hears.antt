@@ -25,11 +25,11 @@ use Rattle.master.specs.declared.state.Master.{Master}
 use Rattle.master.specs.declared.answers.Reason as r
 use Rattle.master.specs.State.{withLine, givenUpState}
 use Rattle.master.specs.Sending.{t2Limit}
-use Rattle.master.specs.Hearing.{settledOf, judged}
+use Rattle.masterhearing.specs.Hearing.{settledOf, judged}
 use Rattle.master.specs.Answers as t
 use Rattle.master.proofs.Ranges.{passes}
 use Rattle.master.proofs.Sends.{gave-up, sent-again}
-use Rattle.master.proofs.Hears.{ignoring, hear-free, hear-heard}
+use Rattle.masterhearing.proofs.Hears.{ignoring, hear-free, hear-heard}
 use Rattle.conduct.specs.Master.Hears.{HeardInTime, HearsFailure, HearsThirdFailure, HearsAnswer, HearsOtherKind, HearsContents, IgnoresBad, IgnoresOtherNumber, IgnoresWhileFree}
 use Rattle.conduct.proofs.Times.{still-runs}
 

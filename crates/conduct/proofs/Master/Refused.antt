@@ -16,7 +16,7 @@ use Rattle.master.specs.declared.state.Master.{Master}
 use Rattle.master.specs.Answers.{Which, Ground, Told, refused}
 use Rattle.master.specs.State.{isFree, callFault}
 use Rattle.master.specs.Sending.{Behind, t0Limit, t2Limit, unlessRefused, sendingOf, failedOf, offerFault, offerOf, pollingOf, waitingOf, tickOf}
-use Rattle.master.specs.Hearing.{settledOf, judged, hearOf}
+use Rattle.masterhearing.specs.Hearing.{settledOf, judged, hearOf}
 use Rattle.conduct.specs.Master.Calls.{offers, ticks, hears}
 use Rattle.conduct.specs.Master.Refused.{RefusedSame}
 

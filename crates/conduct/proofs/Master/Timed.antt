@@ -12,7 +12,7 @@ use Rattle.master.specs.declared.state.Master.{Master}
 use Rattle.master.specs.declared.answers.Reason as r
 use Rattle.master.proofs.Ranges.{lined, passes}
 use Rattle.master.proofs.Sends.{gave-up, sent-again, no-poll, polled, waits, silent, tick-free, tick-busy}
-use Rattle.master.proofs.Hears.{ignoring, hear-late}
+use Rattle.masterhearing.proofs.Hears.{ignoring, hear-late}
 use Rattle.conduct.specs.Times.{clockAfter}
 use Rattle.conduct.proofs.Times.{still-runs, has-run-out}
 use Rattle.laws.specs.Numerals.{numeralOn, numberOn, leftOf}
@@ -33,7 +33,7 @@ use Rattle.judging.specs.Rules.{pollOf, isFailure, answersTo, permittedAnswer}
 use Rattle.judging.specs.Judging.{answeredBy, judgeOf}
 use Rattle.master.specs.State.{sendable, inRanges, callFault, withLine, givenUpState}
 use Rattle.master.specs.Sending.{t0Limit, t2Limit, sendingOf, failedOf, offerFault, offerOf, pollingOf, waitingOf, tickOf}
-use Rattle.master.specs.Hearing.{hearOf}
+use Rattle.masterhearing.specs.Hearing.{hearOf}
 use Rattle.master.specs.Answers as t
 use Rattle.conduct.specs.Master.Timed.{Free, Busy, TicksBeforeT0, TicksFromT0, TicksBeforeT2, TicksFromT2, GivesUpFromT2, IgnoresFromT2, HearsAt1999, IgnoresAt2000}
 

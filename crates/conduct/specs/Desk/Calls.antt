@@ -6,11 +6,13 @@ use Prim.Native.Nat.{ℕ}
 use lib.ListN.{length}
 use Rattle.records.specs.declared.records.Record.{Record}
 use Rattle.characters.specs.Marks.{longest}
-use Rattle.desk.specs.Answers.{Done, done, lost, Told, silent, fault, repeat, handled}
-use Rattle.desk.specs.Answers as h
+use Rattle.desk.specs.Answers.{Done, done, lost}
+use Rattle.deskhearing.specs.Answers.{Told, silent, fault, repeat, handled}
+use Rattle.desk.specs.Answers as d
+use Rattle.deskhearing.specs.Answers as h
 use Rattle.desk.specs.State.{inRanges}
 use Rattle.desk.specs.Panel.{losesLine, notedOf, tickOf, queueOf, setOf, keyOf}
-use Rattle.desk.specs.Hearing.{Hearing, hearOf}
+use Rattle.deskhearing.specs.Hearing.{Hearing, hearOf}
 use Rattle.desk.specs.declared.state.Desk.{Desk}
 
 -- a call: its time where it has one, what it brings, and the output that it may fill
@@ -57,7 +59,7 @@ noted d at = notedOf d (losesLine d at)
 abbrev pub refusedBy : Answered → ℕ
 refusedBy (did done) = 0
 refusedBy (did lost) = 0
-refusedBy (did (h.refused x)) = x .number
+refusedBy (did (d.refused x)) = x .number
 refusedBy (heard (h.refused x) out) = x .number
 refusedBy (heard (silent noted x) out) = 0
 refusedBy (heard (fault noted value n) out) = 0

@@ -20,10 +20,10 @@ use Rattle.deciding.specs.Deciding.{repeats}
 use Rattle.replying.specs.Replying.{Origin, keyOn}
 use Rattle.replying.specs.Replying as o
 use Rattle.replying.specs.declared.replying.Wanted.the-variants.{None, Is}
-use Rattle.desk.specs.Answers.{handled}
+use Rattle.deskhearing.specs.Answers.{handled}
 use Rattle.desk.specs.Panel.{losesLine}
-use Rattle.desk.specs.Queue.{oldest}
-use Rattle.desk.specs.Hearing.{hearOf}
+use Rattle.deskhearing.specs.Queue.{oldest}
+use Rattle.deskhearing.specs.Hearing.{hearOf}
 use Rattle.desk.specs.declared.state.Desk.{Desk}
 use Rattle.conduct.specs.Desk.Calls.{Fine, noted}
 use Rattle.conduct.specs.Desk.Polls.{Answers}

@@ -9,8 +9,10 @@ use Rattle.records.specs.declared.records.Record.{Record}
 use Rattle.reading.specs.Answers as w
 use Rattle.reading.specs.Reading.{readingOf}
 use Rattle.replying.specs.Replying.{Origin, requested, queue, key, panel, contents, notMaster, nothingSet}
-use Rattle.desk.specs.Answers.{done, lost, silent, fault, repeat, handled}
-use Rattle.desk.specs.Answers as h
+use Rattle.desk.specs.Answers.{done, lost}
+use Rattle.deskhearing.specs.Answers.{silent, fault, repeat, handled}
+use Rattle.desk.specs.Answers as d
+use Rattle.deskhearing.specs.Answers as h
 use Rattle.desk.specs.State.{startOf}
 use Rattle.replying.specs.declared.waiting.Waiting.{Waiting}
 use Rattle.desk.specs.declared.state.Desk.{Desk}
@@ -26,7 +28,7 @@ abbrev pub queuedIn : Call → Answered → List Record
 queuedIn (ticks at) answer = []
 queuedIn (queues rec) (did done) = rec ∷ []
 queuedIn (queues rec) (did lost) = []
-queuedIn (queues rec) (did (h.refused x)) = []
+queuedIn (queues rec) (did (d.refused x)) = []
 queuedIn (queues rec) (heard told out) = []
 queuedIn (sets rec) answer = []
 queuedIn (turns position) answer = []

@@ -15,11 +15,11 @@ use Rattle.writing.specs.Writing.{telegramOf}
 use Rattle.characters.specs.Marks.{longest}
 use Rattle.deciding.specs.Deciding.{poll, handle, repeats, rulingIn}
 use Rattle.replying.specs.Replying.{Origin, queue, key, keyOn}
-use Rattle.desk.specs.Answers.{handled}
+use Rattle.deskhearing.specs.Answers.{handled}
 use Rattle.replying.specs.Waiting.{blank}
 use Rattle.desk.specs.Panel.{losesLine}
-use Rattle.desk.specs.Queue.{oldest}
-use Rattle.desk.specs.Hearing.{Hearing, ruling, hearOf}
+use Rattle.deskhearing.specs.Queue.{oldest}
+use Rattle.deskhearing.specs.Hearing.{Hearing, ruling, hearOf}
 use Rattle.replying.specs.declared.waiting.Waiting.{Waiting}
 use Rattle.desk.specs.declared.state.Desk.{Desk}
 use Rattle.conduct.specs.Desk.Calls.{Fine, noted}

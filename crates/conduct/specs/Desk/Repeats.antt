@@ -13,10 +13,10 @@ use Rattle.reading.specs.Reading.{readingOf}
 use Rattle.characters.specs.Marks.{longest}
 use Rattle.deciding.specs.Deciding.{What, contents, matterIn}
 use Rattle.deciding.specs.Deciding as r
-use Rattle.desk.specs.Answers.{repeat}
+use Rattle.deskhearing.specs.Answers.{repeat}
 use Rattle.desk.specs.State.{storedOf}
 use Rattle.desk.specs.Panel.{losesLine}
-use Rattle.desk.specs.Hearing.{Hearing, ruling, hearOf}
+use Rattle.deskhearing.specs.Hearing.{Hearing, ruling, hearOf}
 use Rattle.desk.specs.declared.state.Desk.{Desk}
 use Rattle.conduct.specs.Desk.Calls.{Fine, noted}
 

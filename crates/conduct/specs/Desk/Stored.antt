@@ -12,9 +12,9 @@ use Rattle.values.specs.Values.{permitsRecord}
 use Rattle.writing.specs.Writing.{telegramOf}
 use Rattle.characters.specs.Marks.{shortest, longest}
 use Rattle.replying.specs.Replying.{Origin}
-use Rattle.desk.specs.Answers.{handled}
+use Rattle.deskhearing.specs.Answers.{handled}
 use Rattle.desk.specs.State.{storedOf, startOf}
-use Rattle.desk.specs.Hearing.{hearOf}
+use Rattle.deskhearing.specs.Hearing.{hearOf}
 use Rattle.desk.specs.declared.state.Desk.{Desk}
 use Rattle.conduct.specs.Desk.Calls.{Call, run, Fine}
 

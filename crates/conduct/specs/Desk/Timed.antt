@@ -10,7 +10,7 @@ use Rattle.reading.specs.Reading.{readingOf}
 use Rattle.deciding.specs.Deciding.{repeat, handle, matterIn}
 use Rattle.desk.specs.Answers.{done, lost}
 use Rattle.desk.specs.Panel.{withGood, tickOf}
-use Rattle.desk.specs.Hearing.{ruling}
+use Rattle.deskhearing.specs.Hearing.{ruling}
 use Rattle.desk.specs.declared.state.Desk.{Desk}
 use Rattle.conduct.specs.Times.{clockAfter}
 use Rattle.conduct.specs.Desk.Calls.{Fine, noted}

@@ -8,7 +8,7 @@ use Rattle.master.specs.declared.state.Master.{Master}
 use Rattle.master.specs.Answers.{Which, poll, Ground, silence, rejected}
 use Rattle.master.specs.Answers as t
 use Rattle.master.specs.Sending.{Behind, offerOf, tickOf}
-use Rattle.master.specs.Hearing.{hearOf}
+use Rattle.masterhearing.specs.Hearing.{hearOf}
 
 -- a call: its time, what it brings, and the output that it may fill
 pub data Call : Type 0 where

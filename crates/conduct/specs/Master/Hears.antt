@@ -18,7 +18,7 @@ use Rattle.judging.specs.Rules.{isFailure, permittedAnswer}
 use Rattle.master.specs.declared.state.Master.{Master}
 use Rattle.master.specs.State.{isFree, inRanges, withLine, answeredState, givenUpState}
 use Rattle.master.specs.Sending.{Behind, sendingOf}
-use Rattle.master.specs.Hearing.{hearOf}
+use Rattle.masterhearing.specs.Hearing.{hearOf}
 use Rattle.master.specs.Answers as t
 use Rattle.conduct.specs.Times.{clockAfter}
 use Rattle.conduct.specs.Master.Timed.{Busy}

@@ -11,7 +11,7 @@ use Rattle.judging.specs.Rules.{pollOf}
 use Rattle.master.specs.declared.state.Master.{Master}
 use Rattle.master.specs.State.{isFree, inRanges, started, withLine, givenUpState}
 use Rattle.master.specs.Sending.{Behind, sendingOf, offerOf, tickOf}
-use Rattle.master.specs.Hearing.{hearOf}
+use Rattle.masterhearing.specs.Hearing.{hearOf}
 use Rattle.master.specs.Answers as t
 use Rattle.conduct.specs.Times.{clockAfter}
 use Rattle.conduct.specs.Master.Paper.{telegram}

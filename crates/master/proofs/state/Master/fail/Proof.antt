@@ -1,41 +1,76 @@
--- `master::state::Master::fail` sends again, or gives up at count 3. Assumes nothing.
-use mathlib.Core.Path.{_∙_}
+-- `master::state::Master::fail` checks 15 and 14, and takes a failed sending while not free. Assumes nothing.
+use mathlib.Core.Path.{sym, ap, _∙_}
 use denote.Ref.{now}
-use native.Mathlib.Omega.{arith}
-use Rattle.master.proofs.Ranges.{numbered, counted, sends, sendable-permits}
+use Rattle.reading.specs.Answers.{faultOf}
+use borrow.Author.Tests.{ne-eqb}
 use Rattle.master.specs.Answers.{groundOf}
-use Rattle.master.proofs.Sends.{gave-up, sent-again}
+use Rattle.master.proofs.Ranges.{passed}
+use Rattle.master.proofs.Sends.{fail-refused, fail-free, fail-busy}
 use borrow.Author.Needs.{needs}
 use Rattle.master.proofs.state.Master.fail.Statement.{statement}
 use Rattle.master.proofs.state.Master.fail.Tie as tie
 
-given-up-requires : tie.Need-given-up-requires
-given-up-requires c κs = search needs
+call-check-requires : tie.Need-call-check-requires
+call-check-requires c κs = search needs
+
+enum-known-check : tie.Need-enum-known-check
+enum-known-check c = search needs
+
+refused-requires : tie.Need-refused-requires
+refused-requires c κs = search needs
 
 returns : tie.Need-returns
 returns c =
-    let a = c .before .before .before .args in
-    gave-up (groundOf (a .cause)) (a .good) (a .self) (a .at) (now (a .out)) (c .before .if1 .taken) (c .given-up .result) (c .given-up .ensures)
+    let a = c .before .before .before .before .before .before .args in
+    let call-check = c .before .before .before .before .call-check in
+    fail-refused (groundOf (a .cause)) (a .good) (a .self) (a .at) (now (a .out)) _ (sym (ap faultOf (c .before .before .check .given .1)) ∙ call-check .ensures)
+    (c .refused .result) (c .refused .ensures)
 
-add-send : tie.Need-add-send
-add-send c = omega (arith, counted (c .before .before .args .self) (c .before .before .pre .0) (c .before .before .pre .1 .0))
+enum-told : tie.Need-enum-told
+enum-told c = search needs
 
-send-requires : tie.Need-send-requires
-send-requires c κs =
-    let a = c .before .before .before .args in
-    let pre = c .before .before .before .pre in
-    let m = a .self in
-    (sendable-permits (m .line) (m .rec) (sends m (pre .0) (pre .1 .0)), (numbered m (pre .0), pre .1 .1))
+nothing-requires : tie.Need-nothing-requires
+nothing-requires c κs = search needs
+
+returns-2 : tie.Need-returns-2
+returns-2 c =
+    let a = c .before .before .before .before .before .before .before .args in
+    let call-check = c .before .before .before .before .before .call-check in
+    let enum-told = c .before .before .before .enum-told in
+    fail-free (groundOf (a .cause)) (a .good) (a .self) (a .at) (now (a .out)) (sym (ap faultOf (enum-told .given .1)) ∙ call-check .ensures)
+    (c .before .if1 .taken) (c .nothing .result) (c .nothing .ensures)
+
+failed-requires : tie.Need-failed-requires
+failed-requires c κs =
+    let a = c .before .before .before .before .before .before .before .args in
+    let call-check = c .before .before .before .before .before .call-check in
+    let enum-told = c .before .before .before .enum-told in
+    let g = passed (a .self) _ (sym (ap faultOf (enum-told .given .1)) ∙ call-check .ensures) in
+    (g .0, (ne-eqb _ _ (c .before .if1 .left), g .1))
 
 same-length : tie.Need-same-length
 same-length c = search needs
 
-returns-2 : tie.Need-returns-2
-returns-2 c =
-    let a = c .before .before .before .before .before .before .args in
+returns-3 : tie.Need-returns-3
+returns-3 c =
+    let a = c .before .before .before .before .before .before .before .before .before .before .args in
+    let call-check = c .before .before .before .before .before .before .before .before .call-check in
+    let enum-told = c .before .before .before .before .before .before .enum-told in
     let if1 = c .before .before .before .before .if1 in
-    c .before .before .send .ensures ∙ sent-again (groundOf (a .cause)) (a .good) (a .self) (a .at) (now (a .out)) (if1 .left)
+    let k = sym (ap faultOf (enum-told .given .1)) ∙ call-check .ensures in
+    c .before .before .failed .ensures ∙ fail-busy (groundOf (a .cause)) (a .good) (a .self) (a .at) (now (a .out)) k (if1 .left)
 
 pub fail-spec : {M : Type 1} → statement M
 fail-spec =
-    tie.close (tie.spec given-up-requires returns add-send send-requires same-length returns-2)
+    tie.close
+    (tie.spec
+    call-check-requires
+    enum-known-check
+    refused-requires
+    returns
+    enum-told
+    nothing-requires
+    returns-2
+    failed-requires
+    same-length
+    returns-3)

@@ -6,7 +6,8 @@ use Rattle.master.proofs.Ranges.{lined, numbered, poll-sendable, sendab
 use Rattle.judging.specs.Rules.{pollOf}
 use Rattle.values.specs.Values.{permitsRecord}
 use mathlib.Core.Bool.{true}
-use Rattle.master.proofs.Sends.{no-poll, polled}
+use Rattle.master.proofs.Sends.{stepped, no-poll, polled}
+use Rattle.master.specs.declared.state.Step.{Step}
 use borrow.Author.Needs.{needs}
 use Rattle.master.proofs.state.Master.poll.Statement.{statement}
 use Rattle.master.proofs.state.Master.poll.Tie as tie
@@ -17,11 +18,16 @@ t0-limit-requires c κs = search needs
 run-out-requires : tie.Need-run-out-requires
 run-out-requires c κs = search needs
 
+nothing-requires : tie.Need-nothing-requires
+nothing-requires c κs = search needs
+
 returns : tie.Need-returns
 returns c =
-    let a = c .before .before .before .before .args in
-    let t0-limit = c .before .before .t0-limit in
-    no-poll (a .self) (a .at) (now (a .out)) (t0-limit .result) (t0-limit .ensures) (sym (c .before .run-out .ensures) ∙ not-true _ (c .if1 .taken))
+    let a = c .before .before .before .before .before .args in
+    let t0-limit = c .before .before .before .t0-limit in
+    let late = sym (c .before .before .run-out .ensures) ∙ not-true _ (c .before .if1 .taken) in
+    ap (λ (s : Step). stepped s (now (a .out))) (c .nothing .ensures)
+    ∙ no-poll (a .self) (a .at) (now (a .out)) (t0-limit .result) (t0-limit .ensures) late
 
 poll-of-requires : tie.Need-poll-of-requires
 poll-of-requires c κs = search needs
@@ -55,6 +61,7 @@ poll-spec =
     (tie.spec
     t0-limit-requires
     run-out-requires
+    nothing-requires
     returns
     poll-of-requires
     send-requires

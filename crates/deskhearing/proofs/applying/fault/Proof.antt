@@ -1,0 +1,28 @@
+-- `deskhearing::applying::fault` meets its contract. Assumes nothing.
+use Rattle.desk.proofs.Ranges.{ranges-parts}
+use Rattle.replying.proofs.Permitted.{fault-permitted}
+use Rattle.deskhearing.proofs.Sendings.{as-sent, fault-sent}
+use denote.Ref.{now}
+use borrow.Author.Needs.{needs}
+use Rattle.deskhearing.proofs.applying.fault.Statement.{statement}
+use Rattle.deskhearing.proofs.applying.fault.Tie as tie
+
+cast-t6 : tie.Need-cast-t6
+cast-t6 c = search needs
+
+send-requires : tie.Need-send-requires
+send-requires c κs = search needs
+
+same-length : tie.Need-same-length
+same-length c = search needs
+
+returns : tie.Need-returns
+returns c =
+    let s = c .before .before .before .before .before in
+    let a = s .args in
+    let p = fault-permitted (a .desk .line) (ranges-parts (a .desk) (s .pre .0) .lined) in
+    let e = as-sent (a .desk .line) _ (a .number) (now (a .out)) p (s .pre .1) (s .pre .2) _ _ (c .before .before .send .ensures) in
+    fault-sent (a .desk) (a .lost) (a .number) (now (a .out)) _ _ e
+
+pub fault-spec : {M : Type 1} → statement M
+fault-spec = tie.close (tie.spec cast-t6 send-requires same-length returns)

@@ -1,0 +1,32 @@
+-- `deskhearing::hearing::settle` meets its contract. Assumes nothing.
+use Rattle.desk.proofs.Ranges.{noted-ranges}
+use Rattle.deciding.proofs.Numbers.{ruling-number}
+use Rattle.deskhearing.proofs.Sendings.{settle-applied}
+use denote.Ref.{now}
+use mathlib.Core.Path.{_∙_}
+use borrow.Author.Needs.{needs}
+use Rattle.deskhearing.proofs.hearing.settle.Statement.{statement}
+use Rattle.deskhearing.proofs.hearing.settle.Tie as tie
+
+noted-requires : tie.Need-noted-requires
+noted-requires c κs = search needs
+
+decide-requires : tie.Need-decide-requires
+decide-requires c κs = search needs
+
+apply-requires : tie.Need-apply-requires
+apply-requires c κs = let s = c .before .before .before .before .before .before in
+    (rw (c .before .before .before .noted .ensures) (noted-ranges (s .args .desk) _ (s .pre .0)), rw (c .before .decide .ensures) (ruling-number _ _ _ _), s .pre .1)
+
+same-length : tie.Need-same-length
+same-length c = search needs
+
+returns : tie.Need-returns
+returns c =
+    let a = c .before .before .before .before .before .before .before .before .before .args in
+    let noted = c .before .before .before .before .before .before .noted in
+    let decide = c .before .before .before .before .decide in
+    c .before .before .apply .ensures ∙ settle-applied (a .desk) (a .at) (now (a .frame)) (now (a .out)) (a .lost) _ (noted .ensures) _ (decide .ensures)
+
+pub settle-spec : {M : Type 1} → statement M
+settle-spec = tie.close (tie.spec noted-requires decide-requires apply-requires same-length returns)

@@ -1,0 +1,17 @@
+-- `masterhearing::hearing::other_kind` ends the telegram as answered. Assumes nothing.
+use mathlib.Core.Path.{ap}
+use Rattle.reading.specs.Answers.{answerOf}
+use Rattle.master.specs.declared.state.Master.{Master}
+use Rattle.master.specs.Answers.{otherKind}
+use borrow.Author.Needs.{needs}
+use Rattle.masterhearing.proofs.hearing.other_kind.Statement.{statement}
+use Rattle.masterhearing.proofs.hearing.other_kind.Tie as tie
+
+answered-requires : tie.Need-answered-requires
+answered-requires c κs = search needs
+
+returns : tie.Need-returns
+returns c = ap (λ (m : Master). (m, otherKind (answerOf (c .before .args .reading)) (c .before .args .master .count))) (c .answered .ensures)
+
+pub other-kind-spec : {M : Type 1} → statement M
+other-kind-spec = tie.close (tie.spec answered-requires returns)

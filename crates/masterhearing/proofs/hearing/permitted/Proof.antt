@@ -1,0 +1,16 @@
+-- `masterhearing::hearing::permitted` ends the telegram as answered. Assumes nothing.
+use mathlib.Core.Path.{ap}
+use Rattle.master.specs.declared.state.Master.{Master}
+use Rattle.masterhearing.proofs.Hears.{permitting}
+use borrow.Author.Needs.{needs}
+use Rattle.masterhearing.proofs.hearing.permitted.Statement.{statement}
+use Rattle.masterhearing.proofs.hearing.permitted.Tie as tie
+
+answered-requires : tie.Need-answered-requires
+answered-requires c κs = search needs
+
+returns : tie.Need-returns
+returns c = ap (λ (m : Master). permitting m (c .before .args .rec) (c .before .args .master .count)) (c .answered .ensures)
+
+pub permitted-spec : {M : Type 1} → statement M
+permitted-spec = tie.close (tie.spec answered-requires returns)
