@@ -1,14 +1,14 @@
 -- Texts put into an output one behind the other. Assumes nothing.
 use mathlib.Core.Path.{_≡_, refl, sym, ap, ap₂, _∙_}
 use mathlib.Core.Bool.{false}
-use mathlib.Core.List.{List, [], _∷_, _++_, append-assoc}
+use mathlib.Core.List.{List, [], _∷_, _++_, append-assoc, append-nil}
 use Prim.Native.Nat.{ℕ, suc, _+_, _-_, _≤_, _<_}
 use native.Mathlib.Omega.{arith}
 use native.Mathlib.Numerals.{add-one}
 use native.Mathlib.Nat.{add-zero, add-suc, suc-add}
 use lib.Dec.{ltb}
-use lib.ListN.{length, take, drop, set, getD, length-set, take-append-drop}
-use lib.Seq.{drop-cons, take-suc-set, drop-set-lt}
+use lib.ListN.{length, take, drop, set, getD, length-set, length-take, take-append-drop, drop-of-length-le}
+use lib.Seq.{take-all, drop-cons, drop-drop, take-suc-set, drop-set-lt}
 use borrow.Author.Tests.{lt-ltb, le-ltb}
 use Rattle.laws.proofs.Passes.{on-test, order}
 use Rattle.text.specs.Putting.{puts, placed}
@@ -57,6 +57,16 @@ with-room (b ∷ t) at out h =
     rw (lt-ltb at (length out) l)
     (with-room t (suc at) (set out at b) r
     ∙ rw (suc-add at (length t), ← (add-suc at (length t)), take-suc-set out at b l, drop-set-lt (at + suc (length t)) out at b (omega arith), append-assoc))
+
+-- a text that was copied into its stretch of an output
+pub in-stretch : (t : List ℕ) (at k : ℕ) (out new : List ℕ) → at + length t ≤ length out → k ≡ length t
+    → new ≡ take (length t) t ++ drop (length t) (take k (drop at out)) → (at + length t, take at out ++ (new ++ drop k (drop at out))) ≡ puts t at out
+unfolding placed
+in-stretch t at k out new h q e =
+    let whole = take-all (length t) t (omega arith) in
+    let none = drop-of-length-le (take k (drop at out)) {i = length t} (omega (arith, q, length-take k (drop at out))) in
+    let n : new ≡ t = e ∙ rw (whole, none, append-nil) in
+    rw (n, q, drop-drop (length t) at out) (sym (with-room t at out h))
 
 -- nothing is left of a text
 pub put-all : (left text : List ℕ) (at : ℕ) (out : List ℕ) (a : ℕ) (o : List ℕ) → left ≡ [] → puts left a o ≡ puts text at out → (a, o) ≡ puts text at out

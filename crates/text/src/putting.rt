@@ -14,7 +14,8 @@ pub fn put_byte(out: &mut [u8], at: usize, byte: u8) -> usize
     at
 }
 
-pub fn put_text(out: &mut [u8], at: usize, text: &[u8]) -> usize
+// Byte after byte, while there is room.
+fn put_each(out: &mut [u8], at: usize, text: &[u8]) -> usize
     ensures { λ r. ⌜ (r, now (out .exit)) ≡ puts (now (text .entry)) at (now (out .entry)) ⌝ }
 {
     let mut place = at;
@@ -22,4 +23,19 @@ pub fn put_text(out: &mut [u8], at: usize, text: &[u8]) -> usize
         place = put_byte(out, place, byte_at(text, i));
     }
     place
+}
+
+// A text that all has room is copied in one go.
+pub fn put_text(out: &mut [u8], at: usize, text: &[u8]) -> usize
+    ensures { λ r. ⌜ (r, now (out .exit)) ≡ puts (now (text .entry)) at (now (out .entry)) ⌝ }
+{
+    if out.len() <= at {
+        return at;
+    }
+    if out.len() - at < text.len() {
+        return put_each(out, at, text);
+    }
+    let end = at + text.len();
+    bytes::copy(text, &mut out[at..end]);
+    end
 }

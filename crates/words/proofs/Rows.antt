@@ -77,17 +77,21 @@ other-length (x ∷ xs) [] h = refl
 other-length (x ∷ xs) (y ∷ ys) h = on-test (eqb x y) (λ e. rw e (other-length xs ys (λ l. h (ap suc l)))) (λ e. rw e)
 
 -- the bytes at a place differ, or agree, or there are none
-pub differs : (a b : List ℕ) (i x y : ℕ) → i < length a → length a ≡ length b → x ≡ getD a i 0 → y ≡ getD b i 0 → (x ≡ y → ⊥) → false ≡ sameText (drop i a) (drop i b)
-unfolding sameText
-differs a b i x y l e p q h =
-    let m : i < length b = omega arith in
-    rw (drop-cons a i 0 l, drop-cons b i 0 m, ← p, ← q, ne-eqb x y h)
+swapped : (p q r : Bool) → both (both p q) r ≡ both q (both p r)
+swapped true q r = refl
+swapped false true r = refl
+swapped false false r = refl
 
-pub agrees : (a b : List ℕ) (i x y : ℕ) → i < length a → length a ≡ length b → x ≡ getD a i 0 → y ≡ getD b i 0 → x ≡ y → sameText (drop (i + 1) a) (drop (i + 1) b) ≡ sameText (drop i a) (drop i b)
+pub same-on : (a b : List ℕ) (i x y : ℕ) (all more : Bool) → i < length a → length a ≡ length b → x ≡ getD a i 0 → y ≡ getD b i 0 → more ≡ both (eqb x y) all
+    → both more (sameText (drop (i + 1) a) (drop (i + 1) b)) ≡ both all (sameText (drop i a) (drop i b))
 unfolding sameText
-agrees a b i x y l e p q h =
+same-on a b i x y all more l e p q h =
     let m : i < length b = omega arith in
-    rw (add-one i, drop-cons a i 0 l, drop-cons b i 0 m, ← p, ← q, eq-eqb x y h)
+    rw (add-one i, drop-cons a i 0 l, drop-cons b i 0 m, ← p, ← q, h) (swapped (eqb x y) all _)
+
+pub all-seen : (all s : Bool) → true ≡ s → all ≡ both all s
+all-seen true s h = h
+all-seen false s h = refl
 
 pub none-left : (a b : List ℕ) (i : ℕ) → length a ≤ i → length a ≡ length b → true ≡ sameText (drop i a) (drop i b)
 unfolding sameText

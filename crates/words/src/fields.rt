@@ -1,7 +1,9 @@
 // The fields of a row, between separators, and its words, between spaces.
 ghost use mathlib.Core.Path.{_≡_};
 ghost use Prim.Native.Nat.{_+_, _%_, _^_};
+ghost use lib.Dec.{eqb};
 ghost use lib.ListN.{length, drop};
+ghost use Rattle.laws.specs.Truth.{both};
 ghost use Rattle.words.specs.Fields.{upTo, behindFirst, fromField, rowField, wordOf, wordValue, sameText, wordPlace};
 use characters::slices::byte_at;
 use characters::slices::less;
@@ -73,6 +75,13 @@ pub fn word_value(s: &[u8], at: usize) -> u32
     (number(word(s, at)) % 4294967296) as u32
 }
 
+// Whether two bytes are the same, and all were so far.
+fn still(all: bool, x: u8, y: u8) -> bool
+    ensures { λ r. ⌜ r ≡ both (eqb x y) all ⌝ }
+{
+    if x == y { all } else { false }
+}
+
 // Whether two texts are the same.
 pub fn same(a: &[u8], b: &[u8]) -> bool
     ensures { λ r. ⌜ r ≡ sameText (now (a .entry)) (now (b .entry)) ⌝ }
@@ -80,12 +89,12 @@ pub fn same(a: &[u8], b: &[u8]) -> bool
     if a.len() != b.len() {
         return false;
     }
+    // It does not stop at a byte that differs, so many are compared at once.
+    let mut all = true;
     for i in 0..a.len() {
-        if byte_at(a, i) != byte_at(b, i) {
-            return false;
-        }
+        all = still(all, byte_at(a, i), byte_at(b, i));
     }
-    true
+    all
 }
 
 // The number of a word among the first so many of a text, which is how many they are where it is none of them.

@@ -1,63 +1,66 @@
--- `put_text` puts byte after byte. Assumes nothing.
-use mathlib.Core.Path.{_≡_, refl, sym, ap, _∙_}
-use Prim.Native.Nat.{_≤_, _-_}
+-- `put_text` copies a text that all has room. Assumes nothing.
+use mathlib.Core.Path.{sym}
+use Prim.Native.Nat.{_+_, _-_}
 use native.Mathlib.Omega.{arith}
-use lib.ListN.{length, drop, drop-of-length-le}
-use Rattle.text.specs.Putting.{puts}
-use Rattle.text.proofs.Puts.{byte-on, from-here, put-all}
+use denote.Ref.{now}
+use lib.ListN.{length}
+use Rattle.text.proofs.Puts.{full, in-stretch}
 use borrow.Author.Needs.{needs}
 use Rattle.text.proofs.putting.put_text.Statement.{statement}
 use Rattle.text.proofs.putting.put_text.Tie as tie
 
-abbrev Inv-loop : tie.InvT-loop
-Inv-loop out₀ at text place₀ i₀ i-end out place i = (i ≤ length text) × (i-end ≡ length text) × (length out ≡ length out₀) × (puts (drop i text) place out ≡ puts text at out₀)
+returns : tie.Need-returns
+returns c = sym (full _ _ _ (c .if1 .taken))
 
-abbrev μ-loop : tie.MeasureT-loop
-μ-loop out₀ at text place₀ i₀ i-end out place i = length text - i
+sub-if2 : tie.Need-sub-if2
+sub-if2 c = search needs
 
-loop-holds : tie.Need-loop-holds Inv-loop μ-loop
-loop-holds c = (omega arith, refl, refl, refl)
+put-each-requires : tie.Need-put-each-requires
+put-each-requires c κs = search needs
 
-byte-at-requires : tie.Need-byte-at-requires Inv-loop μ-loop
-byte-at-requires c κs = search needs
+same-length : tie.Need-same-length
+same-length c = search needs
 
-put-byte-requires : tie.Need-put-byte-requires Inv-loop μ-loop
-put-byte-requires c κs = search needs
+returns-2 : tie.Need-returns-2
+returns-2 c = search needs
 
-add-i : tie.Need-add-i Inv-loop μ-loop
-add-i c = search needs
+add-end : tie.Need-add-end
+add-end c = search needs
 
-loop-less : tie.Need-loop-less Inv-loop μ-loop
-loop-less c = search needs
+sub-copy : tie.Need-sub-copy
+sub-copy c = search needs
 
-loop-again : tie.Need-loop-again Inv-loop μ-loop
-loop-again c =
-    let l = c .before .before .before .before .before .before .loop in
-    let byte-at = c .before .before .before .byte-at in
-    let put-byte = c .before .before .put-byte in (
-      omega arith,
-      l .inv .1,
-      put-byte .kept .0 ∙ l .inv .2,
-      byte-on _ _ _ _ _ _ _ (from-here _ (l .i) _ (omega arith) (byte-at .ensures)) (put-byte .ensures) ∙ l .inv .3,
-    )
+part-copy-start : tie.Need-part-copy-start
+part-copy-start c = search needs
 
-same-length : tie.Need-same-length Inv-loop μ-loop
-same-length c = c .before .loop .inv .2
+part-copy-end : tie.Need-part-copy-end
+part-copy-end c = search needs
 
-returns : tie.Need-returns Inv-loop μ-loop
-returns c = let l = c .before .loop in put-all _ _ _ _ _ _ (drop-of-length-le _ {i = l .i} (omega arith)) (l .inv .3)
+copy-requires : tie.Need-copy-requires
+copy-requires c κs = search needs
+
+same-length-2 : tie.Need-same-length-2
+same-length-2 c = search needs
+
+returns-3 : tie.Need-returns-3
+returns-3 c =
+    let p = c .before .before .before .before in
+    let a = p .before .before .before .before .args in
+    in-stretch (now (a .text)) (a .at) (a .at + length (now (a .text)) - a .at) (now (a .out)) _ (omega (arith, p .if2 .left, p .before .if1 .left)) (omega arith) (c .before .before .copy .ensures .1)
 
 pub put-text-spec : {M : Type 1} → statement M
 put-text-spec =
     tie.close
     (tie.spec
-    Inv-loop
-    μ-loop
-    loop-holds
-    byte-at-requires
-    put-byte-requires
-    add-i
-    loop-less
-    loop-again
+    returns
+    sub-if2
+    put-each-requires
     same-length
-    returns)
+    returns-2
+    add-end
+    sub-copy
+    part-copy-start
+    part-copy-end
+    copy-requires
+    same-length-2
+    returns-3)

@@ -1,19 +1,20 @@
 -- `same` compares byte after byte. Assumes nothing.
-use mathlib.Core.Path.{_≡_, refl, sym, ap, _∙_}
-use Prim.Native.Nat.{ℕ, _+_, _≤_, _-_}
+use mathlib.Core.Path.{_≡_, refl, _∙_}
+use Prim.Native.Nat.{ℕ, _≤_, _-_}
 use native.Mathlib.Omega.{arith}
 use lib.ListN.{length, drop}
+use Rattle.laws.specs.Truth.{both}
 use Rattle.words.specs.Fields.{sameText}
-use Rattle.words.proofs.Rows.{other-length, differs, agrees, none-left}
+use Rattle.words.proofs.Rows.{other-length, same-on, none-left, all-seen}
 use borrow.Author.Needs.{needs}
 use Rattle.words.proofs.fields.same.Statement.{statement}
 use Rattle.words.proofs.fields.same.Tie as tie
 
 abbrev Inv-loop : tie.InvT-loop
-Inv-loop a b i₀ i-end i = (i ≤ length a) × (i-end ≡ length a) × (length a ≡ length b) × (sameText (drop i a) (drop i b) ≡ sameText a b)
+Inv-loop a b all₀ i₀ i-end all i = (i ≤ length a) × (i-end ≡ length a) × (length a ≡ length b) × (both all (sameText (drop i a) (drop i b)) ≡ sameText a b)
 
 abbrev μ-loop : tie.MeasureT-loop
-μ-loop a b i₀ i-end i = length a - i
+μ-loop a b all₀ i₀ i-end all i = length a - i
 
 returns : tie.Need-returns Inv-loop μ-loop
 returns c = other-length _ _ (c .if1 .taken)
@@ -27,10 +28,8 @@ byte-at-requires c κs = search needs
 byte-at-requires-2 : tie.Need-byte-at-requires-2 Inv-loop μ-loop
 byte-at-requires-2 c κs = search needs
 
-returns-2 : tie.Need-returns-2 Inv-loop μ-loop
-returns-2 c =
-    let l = c .before .before .before .before .loop in
-    differs _ _ (l .i) _ _ (omega arith) (l .inv .2) (c .before .before .byte-at .ensures) (c .before .byte-at2 .ensures) (c .if2 .taken) ∙ l .inv .3
+still-requires : tie.Need-still-requires Inv-loop μ-loop
+still-requires c κs = search needs
 
 add-i : tie.Need-add-i Inv-loop μ-loop
 add-i c = search needs
@@ -40,11 +39,15 @@ loop-less c = search needs
 
 loop-again : tie.Need-loop-again Inv-loop μ-loop
 loop-again c =
-    let l = c .before .before .before .before .loop in
-    (omega arith, l .inv .1, l .inv .2, agrees _ _ (l .i) _ _ (omega arith) (l .inv .2) (c .before .before .byte-at .ensures) (c .before .byte-at2 .ensures) (c .if2 .left) ∙ l .inv .3)
+    let l = c .before .before .before .before .loop in (
+      omega arith,
+      l .inv .1,
+      l .inv .2,
+      same-on _ _ (l .i) _ _ (l .all) _ (omega arith) (l .inv .2) (c .before .before .byte-at .ensures) (c .before .byte-at2 .ensures) (c .still .ensures) ∙ l .inv .3,
+    )
 
-returns-3 : tie.Need-returns-3 Inv-loop μ-loop
-returns-3 c = let l = c .before .loop in none-left _ _ (l .i) (omega arith) (l .inv .2) ∙ l .inv .3
+returns-2 : tie.Need-returns-2 Inv-loop μ-loop
+returns-2 c = let l = c .before .loop in all-seen (l .all) _ (none-left _ _ (l .i) (omega arith) (l .inv .2)) ∙ l .inv .3
 
 pub same-spec : {M : Type 1} → statement M
 same-spec =
@@ -56,8 +59,8 @@ same-spec =
     loop-holds
     byte-at-requires
     byte-at-requires-2
-    returns-2
+    still-requires
     add-i
     loop-less
     loop-again
-    returns-3)
+    returns-2)
