@@ -4,8 +4,8 @@ use Prim.Native.Nat.{ℕ}
 use lib.ListN.{getD}
 use Rattle.text.specs.Putting.{puts}
 use Rattle.words.specs.Fields.{wordValue}
-use Rattle.rows.specs.Meanings.{smallAt, roomOf, blankOf, recordAt, bytesAt}
-use Rattle.rows.specs.Printing.{unknownText}
+use Rattle.scripts.specs.Meanings.{smallAt, roomOf, blankOf, recordAt, bytesAt}
+use Rattle.scripts.specs.Printing.{unknownText}
 use Rattle.desk.specs.declared.state.Desk.{Desk}
 use Rattle.desk.specs.Answers.{Done}
 use Rattle.desk.specs.State.{startOf}
@@ -16,7 +16,7 @@ use Rattle.deskrows.specs.declared.calls.Field.{Field}
 use Rattle.deskrows.specs.declared.calls.Call as c
 use Rattle.deskrows.specs.Calls.{callOf}
 use Rattle.deskrows.specs.Altering.{alteredOf}
-use Rattle.deskrows.specs.Printing.{steppedText, heardText, alteredText, wholeText}
+use Rattle.deskprints.specs.Printing.{steppedText, heardText, alteredText, wholeText}
 
 -- the desk behind a row, and the text that the row prints
 abbrev pub Row : Type 0

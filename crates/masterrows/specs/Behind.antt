@@ -3,8 +3,8 @@ use mathlib.Core.List.{List, []}
 use Prim.Native.Nat.{ℕ}
 use Rattle.text.specs.Putting.{puts}
 use Rattle.words.specs.Fields.{wordValue}
-use Rattle.rows.specs.Meanings.{smallAt, roomOf, blankOf, recordAt, bytesAt}
-use Rattle.rows.specs.Printing.{unknownText}
+use Rattle.scripts.specs.Meanings.{smallAt, roomOf, blankOf, recordAt, bytesAt}
+use Rattle.scripts.specs.Printing.{unknownText}
 use Rattle.master.specs.declared.state.Master.{Master}
 use Rattle.master.specs.Answers.{Told}
 use Rattle.master.specs.State.{startOf}

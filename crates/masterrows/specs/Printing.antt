@@ -9,7 +9,7 @@ use Rattle.records.specs.declared.records.Record.{Record}
 use Rattle.master.specs.declared.state.Master.{Master}
 use Rattle.master.specs.Answers.{Told}
 use Rattle.words.specs.Items.{recordText}
-use Rattle.rows.specs.Printing.{beganText, numberText, lineText, outputText}
+use Rattle.scripts.specs.Printing.{beganText, numberText, lineText, outputText}
 use Rattle.mastertellings.specs.Tellings.{toldText}
 
 -- what every row ends with: line, number to send, sending count

@@ -4,7 +4,7 @@ ghost use mathlib.Core.List.{[]};
 ghost use Rattle.master.specs.Answers.{toldOf};
 ghost use Rattle.master.specs.Hearing.{hearOf};
 ghost use Rattle.words.specs.Fields.{wordValue};
-ghost use Rattle.rows.specs.Meanings.{bytesAt};
+ghost use Rattle.scripts.specs.Meanings.{bytesAt};
 ghost use Rattle.masterrows.specs.Behind.{printed, didRow, startRow, madeOf, makeRow, alterRow, callRow, onRow};
 use crate::altering::altered;
 use crate::calls::Call;
@@ -17,11 +17,11 @@ use crate::printing::put_whole;
 use characters::slices::part;
 use master::state::Master;
 use master::state::Step;
-use rows::meanings::meant;
-use rows::meanings::record;
-use rows::meanings::room;
-use rows::meanings::small;
-use rows::printing::put_unknown;
+use scripts::meanings::meant;
+use scripts::meanings::record;
+use scripts::meanings::room;
+use scripts::meanings::small;
+use scripts::printing::put_unknown;
 use words::fields::word_value;
 
 // The master behind a row, beside how many bytes of the output the row prints.

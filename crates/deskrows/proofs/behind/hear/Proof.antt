@@ -1,6 +1,6 @@
 -- `hear` lends as much room as the row gives. Assumes nothing.
 use Rattle.deskrows.proofs.Hears.{hears}
-use Rattle.rows.proofs.Meant.{meant-front, room-most}
+use Rattle.scripts.proofs.Meant.{meant-front, room-most}
 use lib.Seq.{length-take-le}
 use mathlib.Core.Path.{refl, sym, _∙_}
 use native.Mathlib.Omega.{arith}

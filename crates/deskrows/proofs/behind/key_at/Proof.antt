@@ -1,6 +1,6 @@
 -- `key_at` takes the first byte. Assumes nothing.
 use Rattle.deskrows.specs.Behind.{keyAt}
-use Rattle.rows.proofs.Meant.{meant-front}
+use Rattle.scripts.proofs.Meant.{meant-front}
 use lib.ListN.{getD}
 use Prim.Native.Nat.{ℕ}
 use mathlib.Core.List.{List}

@@ -1,5 +1,5 @@
 -- `hear` hears what the row says. Assumes nothing.
-use Rattle.rows.proofs.Meant.{meant-front}
+use Rattle.scripts.proofs.Meant.{meant-front}
 use Rattle.master.specs.Hearing.{hearOf}
 use Prim.Native.Nat.{ℕ}
 use mathlib.Core.List.{List}

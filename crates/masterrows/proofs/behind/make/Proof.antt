@@ -34,13 +34,19 @@ same-length : tie.Need-same-length
 same-length c = search needs
 
 returns : tie.Need-returns
-returns c = rw (c .before .before .before .before .before .enum-told .given .1, c .before .before .tick .ensures, c .before .before .before .before .word-value .ensures)
+returns c =
+    let t = c .before .before in
+    let w = t .before .before in
+    rw (w .before .enum-told .given .1, t .tick .ensures, w .word-value .ensures)
 
 same-length-2 : tie.Need-same-length-2
 same-length-2 c = search needs
 
 returns-2 : tie.Need-returns-2
-returns-2 c = rw (c .before .before .before .before .before .before .enum-told2 .given .1, c .before .before .offer .ensures, c .before .before .before .before .before .word-value2 .ensures, c .before .before .before .before .«record» .ensures)
+returns-2 c =
+    let o = c .before .before in
+    let r = o .before .before in
+    rw (r .before .before .enum-told2 .given .1, o .offer .ensures, r .before .word-value2 .ensures, r .«record» .ensures)
 
 same-length-3 : tie.Need-same-length-3
 same-length-3 c = search needs

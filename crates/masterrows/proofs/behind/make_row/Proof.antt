@@ -1,6 +1,6 @@
 -- `make_row` lends as much room as the row gives. Assumes nothing.
 use Rattle.masterrows.proofs.Makes.{makes}
-use Rattle.rows.proofs.Meant.{room-most}
+use Rattle.scripts.proofs.Meant.{room-most}
 use lib.Seq.{length-take-le}
 use mathlib.Core.Path.{sym}
 use native.Mathlib.Omega.{arith}
