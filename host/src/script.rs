@@ -126,11 +126,11 @@ impl Bench {
                     "kept" => desk.kept = value as usize,
                     "queued" => desk.queued = value as usize,
                     "key" => desk.key = value as u8,
-                    _ => {}
+                    _ => return none(),
                 }
                 "altered".into()
             }
-            _ => return String::new(),
+            _ => return none(),
         };
         format!("  {answer}{}\n", self.desk_state())
     }
@@ -154,11 +154,11 @@ impl Bench {
                     "line" => master.line = value,
                     "number" => master.number = value,
                     "count" => master.count = value,
-                    _ => {}
+                    _ => return none(),
                 }
                 return format!("  altered{}\n", self.master_state());
             }
-            _ => return String::new(),
+            _ => return none(),
         };
         let text = format!(
             "  {}{}{}\n",
@@ -172,17 +172,24 @@ impl Bench {
         text
     }
 
-    /// Repeats a row, makes its call and says what came of it; a row that names no call is only repeated.
+    /// Says a row again, makes its call and says what came. A comment and an empty row are only
+    /// said; any other row that names no call is said to be none.
     pub fn row(&mut self, text: &str) -> String {
         let row = Row { text };
         let came = match row.word(0) {
             "desk" => self.on_desk(&row),
             "master" => self.on_master(&row),
             "elapsed" => format!("  {}\n", elapsed(row.number(1), row.number(2))),
-            _ => String::new(),
+            _ if text.is_empty() || text.starts_with('#') => String::new(),
+            _ => none(),
         };
         format!("{text}\n{came}")
     }
+}
+
+/// What is said of a row that names no call.
+fn none() -> String {
+    "  no such row\n".into()
 }
 
 /// Runs a whole script.

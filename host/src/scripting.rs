@@ -16,6 +16,18 @@ pub const STEPS: [u32; 12] = [
 /// What a clock is set to: zero, any time, or shortly before it starts again at zero.
 pub const CLOCKS: [u32; 4] = [0, 1_000_000, 4_294_960_000, u32::MAX];
 
+/// Rows that name no call: comments, and mistyped ones.
+const UNNAMED: [&str; 8] = [
+    "# nothing",
+    "",
+    "desk tikc 5",
+    "desk offer 5 66 t 116",
+    "desk alter count 1",
+    "master queue 5",
+    "master alter last 1",
+    "bench tick 5",
+];
+
 /// A script in the making, and the bench that has run it so far.
 struct Maker<'a> {
     random: &'a mut Random,
@@ -180,7 +192,7 @@ impl Maker<'_> {
             ),
             98 if self.random.one_in(8) => self.alter(),
             99 if self.random.one_in(2) => return self.start(line),
-            _ => "# nothing".into(),
+            _ => UNNAMED[self.random.below(UNNAMED.len())].into(),
         };
         self.say(row);
     }

@@ -95,6 +95,7 @@ fn made_scripts_reach() {
         "  no 15 0",
         "  no 16 0",
         "  no 17 0",
+        "  no such row",
     ] {
         assert!(texts.contains(what), "{what} does not occur");
     }

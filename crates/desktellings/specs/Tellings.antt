@@ -4,18 +4,21 @@ use mathlib.Core.List.{List, [], _∷_, _++_}
 use Prim.Native.Nat.{ℕ}
 use Rattle.laws.specs.Text.{codes}
 use Rattle.records.specs.declared.records.Record.{Record}
-use Rattle.records.specs.Refusals.{No, refusalOf}
-use Rattle.replying.specs.declared.replying.Source as source
-use Rattle.desk.specs.declared.answers.Outcome as outcome
-use Rattle.deskhearing.specs.declared.answers.Heard as heard
+use Rattle.records.specs.Refusals.{No}
+use Rattle.replying.specs.Replying.{Origin}
+use Rattle.replying.specs.Replying as o
+use Rattle.desk.specs.Answers.{Done}
+use Rattle.desk.specs.Answers as d
+use Rattle.deskhearing.specs.Answers.{Told}
+use Rattle.deskhearing.specs.Answers as t
 use Rattle.words.specs.Items.{refusalText, recordText}
 use Rattle.words.specs.Amounts.{bytesText}
 
 -- a call that hears nothing is done, or notes the line lost, or refuses
-abbrev pub outcomeText : outcome.Outcome → List ℕ
-outcomeText outcome.the-variants.Done = codes "done"
-outcomeText outcome.the-variants.Lost = codes "line noted lost"
-outcomeText (outcome.the-variants.Refused r) = refusalText (refusalOf r)
+abbrev pub doneText : Done → List ℕ
+doneText d.done = codes "done"
+doneText d.lost = codes "line noted lost"
+doneText (d.refused x) = refusalText x
 
 -- where an answer comes from
 unfoldable pub keyText : ℕ → List ℕ
@@ -27,14 +30,14 @@ panelText rec = codes "panel " ++ recordText rec
 unfoldable pub contentsText : No → List ℕ
 contentsText x = codes "contents " ++ refusalText x
 
-abbrev pub sourceText : source.Source → List ℕ
-sourceText source.the-variants.Requested = codes "requested"
-sourceText source.the-variants.Queue = codes "queue"
-sourceText (source.the-variants.Key key) = keyText key
-sourceText (source.the-variants.Panel rec) = panelText rec
-sourceText (source.the-variants.Contents r) = contentsText (refusalOf r)
-sourceText source.the-variants.NotMaster = codes "not the master's"
-sourceText source.the-variants.NothingSet = codes "nothing set"
+abbrev pub originText : Origin → List ℕ
+originText o.requested = codes "requested"
+originText o.queue = codes "queue"
+originText (o.key position) = keyText position
+originText (o.panel value rec) = panelText rec
+originText (o.contents value x) = contentsText x
+originText (o.notMaster value) = codes "not the master's"
+originText (o.nothingSet value) = codes "nothing set"
 
 -- before what was heard, where this call noted the line lost
 unfoldable pub notedText : Bool → List ℕ
@@ -49,13 +52,13 @@ faultText lost n = notedText lost ++ (codes "fault, " ++ bytesText n)
 unfoldable pub repeatText : ℕ → List ℕ
 repeatText n = codes "repeat, " ++ bytesText n
 
-unfoldable pub handledText : Bool → source.Source → ℕ → List ℕ
-handledText lost s n = notedText lost ++ (codes "handled, " ++ (sourceText s ++ (codes ", " ++ bytesText n)))
+unfoldable pub handledText : Bool → Origin → ℕ → List ℕ
+handledText lost origin n = notedText lost ++ (codes "handled, " ++ (originText origin ++ (codes ", " ++ bytesText n)))
 
 -- a call that hears
-abbrev pub heardText : heard.Heard → List ℕ
-heardText (heard.the-variants.Refused r) = refusalText (refusalOf r)
-heardText (heard.the-variants.Silent lost r) = silentText lost (refusalOf r)
-heardText (heard.the-variants.Fault lost n) = faultText lost n
-heardText (heard.the-variants.Repeat n) = repeatText n
-heardText (heard.the-variants.Handled lost s n) = handledText lost s n
+abbrev pub toldText : Told → List ℕ
+toldText (t.refused x) = refusalText x
+toldText (t.silent lost x) = silentText lost x
+toldText (t.fault lost value n) = faultText lost n
+toldText (t.repeat n) = repeatText n
+toldText (t.handled lost origin n) = handledText lost origin n

@@ -1,8 +1,11 @@
 // The desk's answers.
 ghost use mathlib.Core.Path.{_≡_};
 ghost use Rattle.records.specs.Refusals.{refusalOf};
+ghost use Rattle.replying.specs.Replying.{originOf};
+ghost use Rattle.desk.specs.Answers.{doneOf};
+ghost use Rattle.deskhearing.specs.Answers.{toldOf};
 ghost use Rattle.text.specs.Putting.{puts};
-ghost use Rattle.desktellings.specs.Tellings.{outcomeText, keyText, panelText, contentsText, sourceText, notedText, silentText, faultText, repeatText, handledText, heardText};
+ghost use Rattle.desktellings.specs.Tellings.{doneText, keyText, panelText, contentsText, originText, notedText, silentText, faultText, repeatText, handledText, toldText};
 use desk::answers::Outcome;
 use deskhearing::answers::Heard;
 use records::records::Record;
@@ -16,7 +19,7 @@ use words::items::put_refusal;
 
 // A call that hears nothing.
 pub fn put_outcome(out: &mut [u8], at: usize, answer: Outcome) -> usize
-    ensures { λ r. ⌜ (r, now (out .exit)) ≡ puts (outcomeText answer) at (now (out .entry)) ⌝ }
+    ensures { λ r. ⌜ (r, now (out .exit)) ≡ puts (doneText (doneOf answer)) at (now (out .entry)) ⌝ }
 {
     match answer {
         Outcome::Done => put_text(out, at, b"done"),
@@ -48,7 +51,7 @@ fn put_contents(out: &mut [u8], at: usize, refusal: Refusal) -> usize
 
 // Where an answer comes from.
 fn put_source(out: &mut [u8], at: usize, s: Source) -> usize
-    ensures { λ r. ⌜ (r, now (out .exit)) ≡ puts (sourceText s) at (now (out .entry)) ⌝ }
+    ensures { λ r. ⌜ (r, now (out .exit)) ≡ puts (originText (originOf s)) at (now (out .entry)) ⌝ }
 {
     match s {
         Source::Requested => put_text(out, at, b"requested"),
@@ -95,7 +98,7 @@ fn put_repeat(out: &mut [u8], at: usize, n: usize) -> usize
 }
 
 fn put_handled(out: &mut [u8], at: usize, lost: bool, s: Source, n: usize) -> usize
-    ensures { λ r. ⌜ (r, now (out .exit)) ≡ puts (handledText lost s n) at (now (out .entry)) ⌝ }
+    ensures { λ r. ⌜ (r, now (out .exit)) ≡ puts (handledText lost (originOf s) n) at (now (out .entry)) ⌝ }
 {
     let a = put_noted(out, at, lost);
     let b = put_text(out, a, b"handled, ");
@@ -106,7 +109,7 @@ fn put_handled(out: &mut [u8], at: usize, lost: bool, s: Source, n: usize) -> us
 
 // A call that hears.
 pub fn put_heard(out: &mut [u8], at: usize, answer: Heard) -> usize
-    ensures { λ r. ⌜ (r, now (out .exit)) ≡ puts (heardText answer) at (now (out .entry)) ⌝ }
+    ensures { λ r. ⌜ (r, now (out .exit)) ≡ puts (toldText (toldOf answer)) at (now (out .entry)) ⌝ }
 {
     match answer {
         Heard::Refused(r) => put_refusal(out, at, r),

@@ -3,59 +3,57 @@ use mathlib.Core.List.{List, _++_}
 use Prim.Native.Nat.{ℕ}
 use Rattle.laws.specs.Text.{codes}
 use Rattle.records.specs.declared.records.Record.{Record}
-use Rattle.records.specs.Refusals.{refusalOf}
-use Rattle.reading.specs.declared.answers.Reading as reading
-use Rattle.master.specs.declared.answers.Sending as sending
-use Rattle.master.specs.declared.answers.Cause as cause
-use Rattle.master.specs.declared.answers.Reason as reason
-use Rattle.master.specs.declared.answers.Answer as answer
+use Rattle.reading.specs.Answers.{Answer}
+use Rattle.reading.specs.Answers as r
+use Rattle.master.specs.Answers.{Which, Ground, Why, Told}
+use Rattle.master.specs.Answers as t
 use Rattle.words.specs.Items.{refusalText, recordText}
 use Rattle.words.specs.Amounts.{bytesText, countSaid}
 
 -- which sending it is, its count and its bytes
-abbrev pub sendingText : sending.Sending → List ℕ
-sendingText sending.the-variants.Offered = codes "sent"
-sendingText sending.the-variants.Again = codes "sent again"
-sendingText sending.the-variants.Poll = codes "polled"
+abbrev pub whichText : Which → List ℕ
+whichText t.offered = codes "sent"
+whichText t.again = codes "sent again"
+whichText t.poll = codes "polled"
 
-unfoldable pub sentText : sending.Sending → ℕ → ℕ → List ℕ
-sentText s count n = sendingText s ++ (countSaid count ++ (codes ", " ++ bytesText n))
+unfoldable pub sentText : Which → ℕ → ℕ → List ℕ
+sentText which count n = whichText which ++ (countSaid count ++ (codes ", " ++ bytesText n))
 
 -- a permitted answer, and one of another kind with what it reads as
 unfoldable pub answeredText : Record → ℕ → List ℕ
 answeredText rec count = codes "answered" ++ (countSaid count ++ (codes ", " ++ recordText rec))
 
-abbrev pub readingText : reading.Reading → List ℕ
-readingText (reading.the-variants.Accepted rec n) = recordText rec
-readingText (reading.the-variants.Refused r) = refusalText (refusalOf r)
+abbrev pub answerText : Answer → List ℕ
+answerText (r.accepted rec n) = recordText rec
+answerText (r.Answer.refused x) = refusalText x
 
-unfoldable pub otherKindText : reading.Reading → ℕ → List ℕ
-otherKindText x count = codes "another kind" ++ (countSaid count ++ (codes ", " ++ readingText x))
+unfoldable pub otherKindText : Answer → ℕ → List ℕ
+otherKindText x count = codes "another kind" ++ (countSaid count ++ (codes ", " ++ answerText x))
 
--- given up, for either cause
-abbrev pub causeText : cause.Cause → List ℕ
-causeText cause.the-variants.Silence = codes "silence"
-causeText cause.the-variants.Rejected = codes "rejected"
+-- given up, on either ground
+abbrev pub groundText : Ground → List ℕ
+groundText t.silence = codes "silence"
+groundText t.rejected = codes "rejected"
 
-unfoldable pub givenUpText : cause.Cause → ℕ → List ℕ
-givenUpText x count = codes "given up, " ++ (causeText x ++ countSaid count)
+unfoldable pub givenUpText : Ground → ℕ → List ℕ
+givenUpText x count = codes "given up, " ++ (groundText x ++ countSaid count)
 
 -- why a hearing was ignored
-abbrev pub reasonText : reason.Reason → List ℕ
-reasonText reason.the-variants.Free = codes "free"
-reasonText reason.the-variants.RunOut = codes "T2 run out"
-reasonText (reason.the-variants.Refused r) = refusalText (refusalOf r)
-reasonText reason.the-variants.OtherNumber = codes "other number"
+abbrev pub whyText : Why → List ℕ
+whyText t.free = codes "free"
+whyText t.runOut = codes "T2 run out"
+whyText (t.Why.refused x) = refusalText x
+whyText t.otherNumber = codes "other number"
 
-unfoldable pub ignoredText : reason.Reason → List ℕ
-ignoredText x = codes "ignored, " ++ reasonText x
+unfoldable pub ignoredText : Why → List ℕ
+ignoredText x = codes "ignored, " ++ whyText x
 
 -- what a call did
-abbrev pub masterText : answer.Answer → List ℕ
-masterText (answer.the-variants.Refused r) = refusalText (refusalOf r)
-masterText answer.the-variants.Nothing = codes "nothing"
-masterText (answer.the-variants.Sent s count n) = sentText s count n
-masterText (answer.the-variants.Answered rec count) = answeredText rec count
-masterText (answer.the-variants.OtherKind x count) = otherKindText x count
-masterText (answer.the-variants.GivenUp x count) = givenUpText x count
-masterText (answer.the-variants.Ignored x) = ignoredText x
+abbrev pub toldText : Told → List ℕ
+toldText (t.Told.refused x) = refusalText x
+toldText t.nothing = codes "nothing"
+toldText (t.sent which count n) = sentText which count n
+toldText (t.answered rec count) = answeredText rec count
+toldText (t.otherKind x count) = otherKindText x count
+toldText (t.givenUp x count) = givenUpText x count
+toldText (t.ignored x) = ignoredText x

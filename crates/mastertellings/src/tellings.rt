@@ -1,8 +1,9 @@
 // The master's answers.
 ghost use mathlib.Core.Path.{_≡_};
-ghost use Rattle.records.specs.Refusals.{refusalOf};
+ghost use Rattle.reading.specs.Answers.{answerOf};
+ghost use Rattle.master.specs.Answers.{whichOf, groundOf, whyOf, toldOf};
 ghost use Rattle.text.specs.Putting.{puts};
-ghost use Rattle.mastertellings.specs.Tellings.{sendingText, sentText, answeredText, readingText, otherKindText, causeText, givenUpText, reasonText, ignoredText, masterText};
+ghost use Rattle.mastertellings.specs.Tellings.{whichText, sentText, answeredText, answerText, otherKindText, groundText, givenUpText, whyText, ignoredText, toldText};
 use master::answers::Answer;
 use master::answers::Cause;
 use master::answers::Reason;
@@ -16,7 +17,7 @@ use words::items::put_record;
 use words::items::put_refusal;
 
 fn put_sending(out: &mut [u8], at: usize, s: Sending) -> usize
-    ensures { λ r. ⌜ (r, now (out .exit)) ≡ puts (sendingText s) at (now (out .entry)) ⌝ }
+    ensures { λ r. ⌜ (r, now (out .exit)) ≡ puts (whichText (whichOf s)) at (now (out .entry)) ⌝ }
 {
     match s {
         Sending::Offered => put_text(out, at, b"sent"),
@@ -26,7 +27,7 @@ fn put_sending(out: &mut [u8], at: usize, s: Sending) -> usize
 }
 
 fn put_sent(out: &mut [u8], at: usize, s: Sending, count: u8, n: usize) -> usize
-    ensures { λ r. ⌜ (r, now (out .exit)) ≡ puts (sentText s count n) at (now (out .entry)) ⌝ }
+    ensures { λ r. ⌜ (r, now (out .exit)) ≡ puts (sentText (whichOf s) count n) at (now (out .entry)) ⌝ }
 {
     let a = put_sending(out, at, s);
     let b = put_count(out, a, count);
@@ -45,7 +46,7 @@ fn put_answered(out: &mut [u8], at: usize, rec: Record, count: u8) -> usize
 
 // What an answer of another kind reads as: its record, or its refusal.
 fn put_reading(out: &mut [u8], at: usize, reading: Reading) -> usize
-    ensures { λ r. ⌜ (r, now (out .exit)) ≡ puts (readingText reading) at (now (out .entry)) ⌝ }
+    ensures { λ r. ⌜ (r, now (out .exit)) ≡ puts (answerText (answerOf reading)) at (now (out .entry)) ⌝ }
 {
     match reading {
         Reading::Accepted(rec, _) => put_record(out, at, rec),
@@ -54,7 +55,7 @@ fn put_reading(out: &mut [u8], at: usize, reading: Reading) -> usize
 }
 
 fn put_other_kind(out: &mut [u8], at: usize, reading: Reading, count: u8) -> usize
-    ensures { λ r. ⌜ (r, now (out .exit)) ≡ puts (otherKindText reading count) at (now (out .entry)) ⌝ }
+    ensures { λ r. ⌜ (r, now (out .exit)) ≡ puts (otherKindText (answerOf reading) count) at (now (out .entry)) ⌝ }
 {
     let a = put_text(out, at, b"another kind");
     let b = put_count(out, a, count);
@@ -63,7 +64,7 @@ fn put_other_kind(out: &mut [u8], at: usize, reading: Reading, count: u8) -> usi
 }
 
 fn put_cause(out: &mut [u8], at: usize, cause: Cause) -> usize
-    ensures { λ r. ⌜ (r, now (out .exit)) ≡ puts (causeText cause) at (now (out .entry)) ⌝ }
+    ensures { λ r. ⌜ (r, now (out .exit)) ≡ puts (groundText (groundOf cause)) at (now (out .entry)) ⌝ }
 {
     match cause {
         Cause::Silence => put_text(out, at, b"silence"),
@@ -72,7 +73,7 @@ fn put_cause(out: &mut [u8], at: usize, cause: Cause) -> usize
 }
 
 fn put_given_up(out: &mut [u8], at: usize, cause: Cause, count: u8) -> usize
-    ensures { λ r. ⌜ (r, now (out .exit)) ≡ puts (givenUpText cause count) at (now (out .entry)) ⌝ }
+    ensures { λ r. ⌜ (r, now (out .exit)) ≡ puts (givenUpText (groundOf cause) count) at (now (out .entry)) ⌝ }
 {
     let a = put_text(out, at, b"given up, ");
     let b = put_cause(out, a, cause);
@@ -80,7 +81,7 @@ fn put_given_up(out: &mut [u8], at: usize, cause: Cause, count: u8) -> usize
 }
 
 fn put_reason(out: &mut [u8], at: usize, reason: Reason) -> usize
-    ensures { λ r. ⌜ (r, now (out .exit)) ≡ puts (reasonText reason) at (now (out .entry)) ⌝ }
+    ensures { λ r. ⌜ (r, now (out .exit)) ≡ puts (whyText (whyOf reason)) at (now (out .entry)) ⌝ }
 {
     match reason {
         Reason::Free => put_text(out, at, b"free"),
@@ -91,7 +92,7 @@ fn put_reason(out: &mut [u8], at: usize, reason: Reason) -> usize
 }
 
 fn put_ignored(out: &mut [u8], at: usize, reason: Reason) -> usize
-    ensures { λ r. ⌜ (r, now (out .exit)) ≡ puts (ignoredText reason) at (now (out .entry)) ⌝ }
+    ensures { λ r. ⌜ (r, now (out .exit)) ≡ puts (ignoredText (whyOf reason)) at (now (out .entry)) ⌝ }
 {
     let a = put_text(out, at, b"ignored, ");
     put_reason(out, a, reason)
@@ -99,7 +100,7 @@ fn put_ignored(out: &mut [u8], at: usize, reason: Reason) -> usize
 
 // What a call did.
 pub fn put_answer(out: &mut [u8], at: usize, answer: Answer) -> usize
-    ensures { λ r. ⌜ (r, now (out .exit)) ≡ puts (masterText answer) at (now (out .entry)) ⌝ }
+    ensures { λ r. ⌜ (r, now (out .exit)) ≡ puts (toldText (toldOf answer)) at (now (out .entry)) ⌝ }
 {
     match answer {
         Answer::Refused(r) => put_refusal(out, at, r),

@@ -11,12 +11,9 @@
 //     elapsed NOW START
 //
 // A RECORD is a type and its values as decimal numbers, B 125 90 120 88. A FRAME is bytes: < for LF, > for CR, =HH for the byte HH hex.
-// A row that names no call, as # and a text, is only said again.
-mod desks;
-mod masters;
-mod rows;
+// An empty row and one that begins with # are only said again; any other row that names no call is said to be none.
+mod ends;
 mod script;
-mod show;
 
 // What a row prints has room: it is said again, 1,024 bytes and LF, and an answer has under 1,500.
 fn main() {

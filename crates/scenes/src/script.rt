@@ -1,17 +1,10 @@
 // A script, row by row.
-use crate::desks;
-use crate::masters;
-use crate::show;
+use crate::ends;
 use characters::slices::byte_at;
 use characters::slices::part;
-use clock::clock::elapsed;
 use std::num::wrapping_add_usize;
 use stdio::input::Got;
 use stdio::input::read_more;
-use text::numbers::put_number;
-use words::fields::word;
-use words::fields::word_place;
-use words::fields::word_value;
 
 // Where a piece of the input is read, how many bytes it has, how many a row has so far, whether it is whole, and whether more may come.
 struct Input {
@@ -96,33 +89,13 @@ fn first_row(buf: &mut [u8], row: &mut [u8]) -> Input {
     next_row(input, buf, row)
 }
 
-fn elapsed_row(row: &[u8], out: &mut [u8]) {
-    let n = elapsed(word_value(row, 1), word_value(row, 2));
-    let a = show::begin(out, row);
-    let b = put_number(out, a, n as u64);
-    show::end(out, b);
-}
-
-// A row of neither end: elapsed time, or one that is only said again.
-fn others(row: &[u8], out: &mut [u8]) {
-    match word_place(b"desk master elapsed", 3, word(row, 0)) {
-        0 | 1 => {}
-        2 => elapsed_row(row, out),
-        _ => show::only(out, row),
-    }
-}
-
-// Row after row; what is neither end's is told first.
+// Row after row.
 pub(crate) fn run(buf: &mut [u8], row: &mut [u8], out: &mut [u8]) {
-    let mut desk = desks::blank();
-    let mut master = masters::blank();
+    let mut both = ends::blank();
     let mut turns = u64::MAX;
     let mut input = first_row(buf, row);
     while turns > 0 && input.whole {
-        let said = part(row, 0, input.filled);
-        others(said, out);
-        desk = desks::on_row(desk, said, out);
-        master = masters::on_row(master, said, out);
+        both = ends::on_row(both, part(row, 0, input.filled), out);
         input = next_row(input, buf, row);
         turns = turns - 1;
     }

@@ -7,16 +7,13 @@ use Rattle.scenes.proofs.script.run.Statement.{statement}
 use Rattle.scenes.proofs.script.run.Tie as tie
 
 abbrev Inv-loop : tie.InvT-loop
-Inv-loop buf₀ row₀ out₀ desk₀ master₀ turns₀ input₀ buf row out desk master turns input = (length buf ≡ length buf₀) × (length row ≡ length row₀) × (length out ≡ length out₀)
+Inv-loop buf₀ row₀ out₀ both₀ turns₀ input₀ buf row out both turns input = (length buf ≡ length buf₀) × (length row ≡ length row₀) × (length out ≡ length out₀)
 
 abbrev μ-loop : tie.MeasureT-loop
-μ-loop buf₀ row₀ out₀ desk₀ master₀ turns₀ input₀ buf row out desk master turns input = turns
+μ-loop buf₀ row₀ out₀ both₀ turns₀ input₀ buf row out both turns input = turns
 
 blank-requires : tie.Need-blank-requires Inv-loop μ-loop
 blank-requires c κs = search needs
-
-blank-requires-2 : tie.Need-blank-requires-2 Inv-loop μ-loop
-blank-requires-2 c κs = search needs
 
 first-row-requires : tie.Need-first-row-requires Inv-loop μ-loop
 first-row-requires c κs = search needs
@@ -27,36 +24,28 @@ loop-holds c = search needs
 part-requires : tie.Need-part-requires Inv-loop μ-loop
 part-requires c κs = search needs
 
-others-requires : tie.Need-others-requires Inv-loop μ-loop
-others-requires c κs = search needs
-
 on-row-requires : tie.Need-on-row-requires Inv-loop μ-loop
 on-row-requires c κs = search needs
-
-on-row-requires-2 : tie.Need-on-row-requires-2 Inv-loop μ-loop
-on-row-requires-2 c κs = search needs
 
 next-row-requires : tie.Need-next-row-requires Inv-loop μ-loop
 next-row-requires c κs = search needs
 
 sub-turns : tie.Need-sub-turns Inv-loop μ-loop
 sub-turns c =
-    let t = c .before .before .before .before .before .before .before .before .before .before .before .before .before .before .before .before .before .before .before .before .before .before in
+    let t = c .before .before .before .before .before .before .before .before .before .before .before .before .before .before in
     omega (arith, t .loop-test .taken)
 
 loop-less : tie.Need-loop-less Inv-loop μ-loop
 loop-less c =
-    let t = c .before .before .before .before .before .before .before .before .before .before .before .before .before .before .before .before .before .before .before .before .before .before in
+    let t = c .before .before .before .before .before .before .before .before .before .before .before .before .before .before in
     omega (arith, t .loop-test .taken)
 
 loop-again : tie.Need-loop-again Inv-loop μ-loop
 loop-again c =
-    let n = c .before .before .before .before .next-row .kept in
-    let m = c .before .before .before .before .before .before .before .before .before .on-row2 .kept in
-    let d = c .before .before .before .before .before .before .before .before .before .before .before .before .before .on-row .kept in
-    let o = c .before .before .before .before .before .before .before .before .before .before .before .before .before .before .before .before .before .others .kept in
-    let i = c .before .before .before .before .before .before .before .before .before .before .before .before .before .before .before .before .before .before .before .before .before .before .before .loop .inv in
-    (omega (arith, n, i), omega (arith, n, i), omega (arith, m, d, o, i))
+    let n = c .before .before .before .before in
+    let o = n .before .before .before .before .before in
+    let i = o .before .before .before .before .before .before .loop .inv in
+    (omega (arith, n .next-row .kept, i), omega (arith, n .next-row .kept, i), omega (arith, o .on-row .kept, i))
 
 same-length : tie.Need-same-length Inv-loop μ-loop
 same-length c = search needs
@@ -89,13 +78,10 @@ run-spec =
     Inv-loop
     μ-loop
     blank-requires
-    blank-requires-2
     first-row-requires
     loop-holds
     part-requires
-    others-requires
     on-row-requires
-    on-row-requires-2
     next-row-requires
     sub-turns
     loop-less

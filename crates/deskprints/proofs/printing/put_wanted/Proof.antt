@@ -1,0 +1,49 @@
+-- `put_wanted` puts nothing, or its parts one behind the other. Assumes nothing.
+use Rattle.deskprints.specs.Printing.{setText}
+use Rattle.text.specs.Putting.{puts}
+use Rattle.text.proofs.Puts.{then}
+use borrow.Author.Needs.{needs}
+use Rattle.deskprints.proofs.printing.put_wanted.Statement.{statement}
+use Rattle.deskprints.proofs.printing.put_wanted.Tie as tie
+
+enum-told : tie.Need-enum-told
+enum-told c = search needs
+
+enum-known-wanted : tie.Need-enum-known-wanted
+enum-known-wanted c = search needs
+
+slice-aggregate-put-text : tie.Need-slice-aggregate-put-text
+slice-aggregate-put-text c = search needs
+
+put-text-requires : tie.Need-put-text-requires
+put-text-requires c κs = search needs
+
+put-record-requires : tie.Need-put-record-requires
+put-record-requires c κs = search needs
+
+returns : tie.Need-returns
+unfolding puts
+returns c = rw (c .enum-told .given .1)
+
+same-length : tie.Need-same-length
+same-length c = search needs
+
+returns-2 : tie.Need-returns-2
+unfolding setText
+returns-2 c =
+    let a = c .before .before in
+    let b = a .before .before .before .before in
+    rw (c .before .before .before .before .before .before .before .before .before .before .wanted .given .1) (then _ _ _ _ _ _ _ _ (b .put-text .ensures) (a .put-record .ensures))
+
+pub put-wanted-spec : {M : Type 1} → statement M
+put-wanted-spec =
+    tie.close
+    (tie.spec
+    enum-told
+    enum-known-wanted
+    slice-aggregate-put-text
+    put-text-requires
+    put-record-requires
+    returns
+    same-length
+    returns-2)

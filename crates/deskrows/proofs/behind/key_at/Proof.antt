@@ -1,0 +1,42 @@
+-- `key_at` takes the first byte. Assumes nothing.
+use Rattle.deskrows.specs.Behind.{keyAt}
+use Rattle.scripts.proofs.Meant.{meant-front}
+use lib.ListN.{getD}
+use Prim.Native.Nat.{ℕ}
+use mathlib.Core.List.{List}
+use mathlib.Core.Path.{refl, ap, _∙_}
+use borrow.Author.Needs.{needs}
+use Rattle.deskrows.proofs.behind.key_at.Statement.{statement}
+use Rattle.deskrows.proofs.behind.key_at.Tie as tie
+
+slice-aggregate-meant : tie.Need-slice-aggregate-meant
+slice-aggregate-meant c = search needs
+
+meant-requires : tie.Need-meant-requires
+meant-requires c κs = search needs
+
+slice-aggregate-part : tie.Need-slice-aggregate-part
+slice-aggregate-part c = search needs
+
+part-requires : tie.Need-part-requires
+part-requires c κs = search needs
+
+byte-at-requires : tie.Need-byte-at-requires
+byte-at-requires c κs = search needs
+
+returns : tie.Need-returns
+unfolding keyAt
+returns c =
+    let f = c .before .part .ensures ∙ meant-front 2 _ _ _ _ refl (c .before .before .before .before .meant .ensures) in
+    c .byte-at .ensures ∙ ap (λ (t : List ℕ). getD t 0 0) f
+
+pub key-at-spec : {M : Type 1} → statement M
+key-at-spec =
+    tie.close
+    (tie.spec
+    slice-aggregate-meant
+    meant-requires
+    slice-aggregate-part
+    part-requires
+    byte-at-requires
+    returns)

@@ -1,0 +1,4 @@
+pub mod Calls
+pub mod Altering
+pub mod Printing
+pub mod Behind

@@ -1,0 +1,31 @@
+-- `output` puts what stands up to the last byte that is not #. Assumes nothing.
+use Rattle.scripts.proofs.Filled.{same-text}
+use Rattle.scripts.specs.Printing.{firstText, outputText}
+use Rattle.laws.specs.Text.{codes}
+use Prim.Native.Nat.{ℕ}
+use mathlib.Core.Path.{ap}
+use borrow.Author.Needs.{needs}
+use Rattle.scripts.proofs.printing.output.Statement.{statement}
+use Rattle.scripts.proofs.printing.output.Tie as tie
+
+slice-aggregate-first : tie.Need-slice-aggregate-first
+slice-aggregate-first c = search needs
+
+filled-requires : tie.Need-filled-requires
+filled-requires c κs = search needs
+
+first-requires : tie.Need-first-requires
+first-requires c κs = search needs
+
+same-length : tie.Need-same-length
+same-length c = search needs
+
+returns : tie.Need-returns
+unfolding outputText
+returns c =
+    let sent = c .before .before .before .before .before .before .before .before .args .sent .now in
+    same-text _ _ _ _ _ (ap (λ (n : ℕ). firstText (codes " ") sent n) (c .before .before .before .filled .ensures)) (c .before .before .first .ensures)
+
+pub output-spec : {M : Type 1} → statement M
+output-spec =
+    tie.close (tie.spec slice-aggregate-first filled-requires first-requires same-length returns)

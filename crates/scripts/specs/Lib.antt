@@ -1,0 +1,3 @@
+pub mod Kinds
+pub mod Meanings
+pub mod Printing
