@@ -209,10 +209,18 @@ fn fits(form: Form, line: u8, sought: Sought) -> bool
     }
 }
 
-// The first row of a table that is what is looked for; where there is none, a form of no type on no line.
-fn first_row(table: [Form; ROW_COUNT], line: u8, sought: Sought) -> Looked
-    ensures { λ r. ⌜ r ≡ lookIn table (testOf sought line) ⌝ }
+// The rows of the table, apart from the search: a check grows with locals times statements of one function.
+fn rows() -> [Form; ROW_COUNT]
+    ensures { λ r. ⌜ r ≡ forms ⌝ }
 {
+    FORMS
+}
+
+// The first row that is what is looked for; where there is none, a form of no type on no line.
+fn look(line: u8, sought: Sought) -> Looked
+    ensures { λ r. ⌜ r ≡ lookIn forms (testOf sought line) ⌝ }
+{
+    let table = rows();
     let mut i: usize = 0;
     while i < ROW_COUNT {
         let form = table[i];
@@ -235,13 +243,6 @@ fn first_row(table: [Form; ROW_COUNT], line: u8, sought: Sought) -> Looked
             lens: [0; 10],
         },
     }
-}
-
-// The first row of the table of forms that is what is looked for.
-fn look(line: u8, sought: Sought) -> Looked
-    ensures { λ r. ⌜ r ≡ lookIn forms (testOf sought line) ⌝ }
-{
-    first_row(FORMS, line, sought)
 }
 
 // The row of a type on a line by the letter of its first packet; where no row has the letter, the type's first row.
