@@ -1,4 +1,4 @@
-//! Time: document 01, 'Link rules'.
+//! Time: rules K1 to K4.
 
 /// Now less start, modulo 2^32.
 pub fn elapsed(now: u32, start: u32) -> u32 {

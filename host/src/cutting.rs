@@ -1,5 +1,4 @@
-//! Cuts telegrams out of a byte stream in two ways, which the tests compare: document 01,
-//! 'Cutting the stream'.
+//! Cuts telegrams out of a byte stream in two ways, which the tests compare: rules C1 to C8.
 
 use crate::faults::is_on;
 use crate::reading::{CR, LF, LONGEST};

@@ -1,5 +1,5 @@
 //! Runs both ends over a simulated line and writes the exchange as a time line: demand 3,
-//! and document 01, 'Link rules'. The ends are reached by the rows of docs/SCENES.md, so that
+//! and rules J1 to J10. The ends are reached by the rows of docs/SCENES.md, so that
 //! the program `scenes`, the second version or the library can stand behind them.
 
 use crate::demand::{summary, Item};

@@ -1,5 +1,5 @@
-//! The desk, the slave's end of a line: document 01, 'Link rules', 'Desk', and answers 12 to
-//! 15 and 17 of 'Numbered answers'.
+//! The desk, the slave's end of a line: rules D1 to D16, E1 to E12, R12 to R15
+//! and R17.
 
 use crate::clock::run_out;
 use crate::faults::is_on;

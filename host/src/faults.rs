@@ -1,5 +1,5 @@
 //! Deliberate faults of the second version. The environment variable HOST_FAULT switches one on,
-//! and the comparison must find it. Most are from document 01, 'Readings that look right'.
+//! and the comparison must find it. Most are readings of the rules that look right and are not.
 
 use std::sync::OnceLock;
 

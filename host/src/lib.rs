@@ -1,5 +1,5 @@
-//! A second version of reading, cutting, listing and the two ends, written from document 01
-//! alone, and of the C face, written from its header; with makers of telegrams, captures, scripts
+//! A second version of reading, cutting, listing and the two ends, written from the rules
+//! (docs/RULES.md) alone, and of the C face, written from its header; with makers of telegrams, captures, scripts
 //! and calls to try the project's programs and its library with.
 
 pub mod arguments;

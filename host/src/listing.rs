@@ -1,4 +1,4 @@
-//! The whole listing of an input as text: document 01, end of 'Bench cases'.
+//! The whole listing of an input as text: rules P1 to P4.
 
 use crate::cutting::telegrams;
 use crate::reading::read;

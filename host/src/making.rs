@@ -1,4 +1,4 @@
-//! Makes telegrams of every form of document 01 with right count and checksum, damages them,
+//! Makes telegrams of every form (rules L6 to L19) with right count and checksum, damages them,
 //! and strings them together into captures with noise between.
 
 use crate::random::Random;

@@ -1,5 +1,4 @@
-//! The master's end of a line: document 01, 'Link rules', 'Master', and answers 12 to 16 of
-//! 'Numbered answers'.
+//! The master's end of a line: rules M1 to M17, E1 to E12 and R12 to R16.
 
 use crate::clock::run_out;
 use crate::desk::{Refusal, ROOM};

@@ -1,5 +1,5 @@
 //! A generator with a fixed seed (splitmix64), so that each run of the tests draws the same
-//! telegrams; document 01 has no section for it.
+//! telegrams; no rule speaks of it.
 
 /// The state of the generator.
 pub struct Random {

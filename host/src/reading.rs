@@ -1,5 +1,4 @@
-//! Reads one telegram: document 01, 'The three lines and both ends', 'The telegram',
-//! 'Telegram forms' and answers 1 to 11 and 15 of 'Numbered answers'.
+//! Reads one telegram: rules L1 to L19, V1 to V17, B1 to B7, R1 to R11 and R15.
 
 use crate::faults::is_on;
 

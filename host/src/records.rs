@@ -1,5 +1,5 @@
-//! Records as a type with a number for each packet, and their telegrams: document 01,
-//! 'The three lines and both ends' and 'Telegram forms'.
+//! Records as a type with a number for each packet, and their telegrams: rules L1 to L19
+//! and V18.
 
 use crate::making::framed;
 use crate::reading::{form_of, permits, value_length, Reading};

@@ -1,5 +1,5 @@
 //! The built listing program against the independent listing where pieces of input meet, and on
-//! long and slow input: document 01, end of 'Bench cases'.
+//! long and slow input: rule P5.
 
 mod running;
 

@@ -1,5 +1,5 @@
 //! The programs `cases` and `damage`: no row differs from what it expects, none is left out, and
-//! the second version expects the same. Document 01, 'Bench cases' and 'Numbered answers'.
+//! the second version expects the same: rules W9, W10 and R1 to R15.
 
 use host::program::said;
 use host::reading::{checksum, form_of, read};

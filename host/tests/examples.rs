@@ -108,7 +108,7 @@ fn every_example_compiles_without_a_warning() {
     }
 }
 
-/// Cases a and i of document 01, 'Bench cases', an empty input, and one of 67 bytes.
+/// Cases a and i (rule W10), an empty input, and one of 67 bytes.
 #[test]
 fn read_reads_one_telegram_as_c_and_as_cpp() {
     for compiler in [&C99[..], &CPP17[..]] {

@@ -1,5 +1,5 @@
 //! Compares the compiled library with the second version through the C face, from fixed seeds:
-//! `include/in656.h` and document 01. Where the library is not linked each test says so.
+//! `include/in656.h` and the rules. Where the library is not linked each test says so.
 
 use host::comparing::{compare, figures, Tally, GATE};
 use host::face::{library, Face};

@@ -1,5 +1,5 @@
 //! The built listing program against the independent listing, on inputs with fixed seeds:
-//! document 01, end of 'Bench cases', with 'Cutting the stream' and 'Numbered answers'.
+//! rules P1 to P5, with C1 to C9 and R1 to R15.
 
 mod running;
 

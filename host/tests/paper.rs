@@ -1,5 +1,5 @@
-//! The independent version against document 01 itself: 'Bench cases', the table of forms,
-//! 'Numbered answers', 'Cutting the stream' and the sample listing.
+//! The independent version against the rules themselves: the cases of W9 and W10, the forms, the
+//! refusals, cutting and the listing of P4.
 
 use host::cutting::{next_telegram, telegrams, Cutter, Heard};
 use host::listing::listing;

@@ -1,5 +1,5 @@
-//! Compares the built program `scenes` with the second version of the two ends: document 01,
-//! 'Link rules' and 'Numbered answers', and docs/SCENES.md for the rows.
+//! Compares the built program `scenes` with the second version of the two ends: rules
+//! E1 to E12, M1 to M17 and D1 to D16, and docs/SCENES.md for the rows.
 
 use host::program::said;
 use host::random::Random;

@@ -1,4 +1,4 @@
--- A record as a block of bytes (01 'Telegram forms'; 'Numbered answers', 12 and 13). Assumes nothing.
+-- A record as a block of bytes (rule F5). Assumes nothing.
 use mathlib.Core.Path.{_≡_}
 use mathlib.Core.Bool.{cond}
 use mathlib.Core.List.{List, _∷_, _++_}

@@ -1,3 +1,3 @@
-// Records as blocks of bytes (01 'The three lines and both ends': the C face; 'Numbered answers', 12 and 13).
+// Records as blocks of bytes (rule F5).
 pub mod numbers;
 pub mod record;

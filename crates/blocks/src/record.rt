@@ -1,5 +1,4 @@
-// A record as a block: its type, ten values of four bytes, and the bytes for a text, which stay 0 (01 'Telegram forms';
-// 'Numbered answers', 12 and 13).
+// A record as a block: its type, ten values of four bytes, and the bytes for a text, which stay 0 (rule F5).
 ghost use mathlib.Core.Path.{_≡_};
 ghost use Rattle.words.specs.Fields.{sameText};
 ghost use Rattle.text.specs.Putting.{puts};

@@ -1,4 +1,4 @@
--- Over any run of the listing, what is written at its end is the listing of all that was read (01 'Bench cases'). Assumes nothing.
+-- Over any run of the listing, what is written at its end is the listing of all that was read (rule P5). Assumes nothing.
 use mathlib.Core.Path.{_≡_, refl, sym, ap, subst, _∙_}
 use mathlib.Core.List.{List, [], _∷_}
 use Prim.Native.Nat.{ℕ, _≤_}

@@ -1,4 +1,4 @@
--- A listing that goes on: what it has written and what it holds make up the listing of all that was read (01 'Bench cases'). Assumes nothing.
+-- A listing that goes on: what it has written and what it holds make up the listing of all that was read (rule P5). Assumes nothing.
 use mathlib.Core.Path.{_≡_, refl, sym, ap, ap₂, _∙_}
 use mathlib.Core.Bool.{Bool, true, false, cond}
 use mathlib.Core.List.{List, [], _++_, append-nil, append-assoc}

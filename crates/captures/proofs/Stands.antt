@@ -1,4 +1,4 @@
--- Where a run of the listing stands: each turn keeps what is written and held in step with what was read (01 'Bench cases'). Assumes nothing.
+-- Where a run of the listing stands: each turn keeps what is written and held in step with what was read (rule P5). Assumes nothing.
 use mathlib.Core.Path.{_≡_, refl, sym, ap, subst, _∙_}
 use mathlib.Core.Bool.{Bool, true, false, cond}
 use mathlib.Core.List.{List, [], _∷_, _++_, append-nil, append-assoc}

@@ -1,4 +1,4 @@
--- The listing of a whole capture (01, the end of 'Bench cases'). Assumes nothing.
+-- The listing of a whole capture (rules P1 to P3). Assumes nothing.
 use Prim.Native.Nat.{ℕ}
 use mathlib.Core.Bool.{cond}
 use mathlib.Core.List.{List, [], _∷_, _++_}

@@ -1,4 +1,4 @@
--- A run of the listing, turn after turn, whatever each read brings (01 'Bench cases'). Assumes nothing.
+-- A run of the listing, turn after turn, whatever each read brings (rule P5). Assumes nothing.
 use mathlib.Core.Path.{_≡_}
 use mathlib.Core.List.{List, [], _∷_, _++_}
 use Prim.Native.Nat.{ℕ, _≤_, _<_}

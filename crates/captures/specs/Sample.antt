@@ -1,4 +1,4 @@
--- The listing that 01 'Bench cases' prints in full, and the inputs that print `no 15 0` or nothing. Assumes nothing.
+-- The listing of rule P4, and the inputs that print `no 15 0` or nothing. Assumes nothing.
 use mathlib.Core.Path.{_≡_}
 use mathlib.Core.Bool.{false}
 use mathlib.Core.List.{List, [], _∷_, _++_}

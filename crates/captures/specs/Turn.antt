@@ -1,4 +1,4 @@
--- A turn of a listing (01 'Bench cases', 'Numbered answers'). Assumes nothing.
+-- A turn of a listing (rules P2, P3, P5, P10). Assumes nothing.
 use Prim.Native.Nat.{ℕ, _+_, _-_}
 use mathlib.Core.Bool.{cond}
 use mathlib.Core.List.{List}

@@ -1,4 +1,4 @@
-// A turn of a listing: what was read is listed, and what the next turn needs is kept (01 'Bench cases', 'Numbered answers').
+// A turn of a listing: what was read is listed, and what the next turn needs is kept (rules P2, P3, P5, P10).
 ghost use mathlib.Core.Path.{_≡_};
 ghost use Rattle.reading.specs.Answers.{outcomeOf};
 ghost use Rattle.captures.specs.Captures.{badLine};

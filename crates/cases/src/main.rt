@@ -1,4 +1,4 @@
-// Runs the cases of 01 'Bench cases', a row of standard input each: what the paper says, what came, and how many differ.
+// Runs the bench cases (rules W9, W10, R1 to R17), a row of standard input each: what the paper says, what came, and how many differ.
 mod rows;
 mod runs;
 

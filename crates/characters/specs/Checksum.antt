@@ -1,4 +1,4 @@
--- The checksum (01 'The telegram'; 001 section 4.4). Assumes nothing.
+-- The checksum (rules B4, B5; 001 section 4.4). Assumes nothing.
 use Prim.Native.Nat.{ℕ, _+_, _-_, _/_, _%_}
 use Prim.Native.Char.{code}
 use mathlib.Core.Bool.{cond}

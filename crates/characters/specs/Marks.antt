@@ -1,4 +1,4 @@
--- The bytes that begin and end a telegram, and how long it may be (01 'The telegram'). Assumes nothing.
+-- The bytes that begin and end a telegram, and how long it may be (rules B1, B2). Assumes nothing.
 use Prim.Native.Nat.{ℕ, _-_}
 
 -- line feed, its first byte

@@ -1,4 +1,4 @@
-// The limited character set (01 'The telegram'; 001 section 5.3.1).
+// The limited character set (rule B7; 001 section 5.3.1).
 ghost use mathlib.Core.Path.{_≡_};
 ghost use Rattle.characters.specs.Characters.{inSet};
 

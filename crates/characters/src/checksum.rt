@@ -1,4 +1,4 @@
-// The checksum (01 'The telegram'; 001 section 4.4).
+// The checksum (rules B4, B5; 001 section 4.4).
 ghost use mathlib.Core.Path.{_≡_};
 ghost use Rattle.characters.specs.Checksum.{checksumOf, hexOf};
 

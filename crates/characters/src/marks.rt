@@ -1,4 +1,4 @@
-// The bytes that begin and end a telegram, and how long it may be (01 'The telegram').
+// The bytes that begin and end a telegram, and how long it may be (rules B1, B2).
 
 // Line feed, its first byte.
 pub const LF: u8 = 0x0A;

@@ -1,4 +1,4 @@
--- Time and timers (01 'Link rules'). Assumes nothing.
+-- Time and timers (rules K1 to K3). Assumes nothing.
 use Prim.Native.Nat.{ℕ, _+_, _-_, _%_, _^_}
 use mathlib.Core.Bool.{Bool}
 use lib.Dec.{leb}

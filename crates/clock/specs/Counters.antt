@@ -1,4 +1,4 @@
--- The numbers of telegrams (01 'Link rules'; 001 section 4.2). Assumes nothing.
+-- The numbers of telegrams (rule K5; 001 section 4.2). Assumes nothing.
 use Prim.Native.Nat.{ℕ, _-_}
 use Prim.Native.Char.{code}
 use mathlib.Core.Bool.{Bool, cond}

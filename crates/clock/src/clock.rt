@@ -1,4 +1,4 @@
-// Time (01 'Link rules'): a 32-bit millisecond count that starts again at zero.
+// Time (rules K1 to K3): a 32-bit millisecond count that starts again at zero.
 ghost use mathlib.Core.Path.{_≡_};
 ghost use Rattle.clock.specs.Clock.{elapsedOf, runOut};
 

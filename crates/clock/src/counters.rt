@@ -1,4 +1,4 @@
-// The number to send and the last number taken are two separate counters, kept apart (01 'Link rules'; 001 section 4.2).
+// The number to send and the last number taken are two separate counters, kept apart (rule K5; 001 section 4.2).
 ghost use mathlib.Core.Path.{_≡_};
 ghost use Rattle.clock.specs.Counters.{inRange, changedOf, sameNumber, isNumber, numberIn};
 

@@ -1,4 +1,4 @@
--- The row of a thing that is compared (01 'Bench cases': the rest are run and compared). Assumes nothing.
+-- The row of a thing that is compared (rule P7). Assumes nothing.
 use mathlib.Core.Bool.{Bool, true, false}
 use mathlib.Core.List.{List, [], _∷_, _++_}
 use Prim.Native.Nat.{ℕ}

@@ -1,4 +1,4 @@
--- The desk under any calls (01 'Link rules', 'Desk'). Assumes nothing.
+-- The desk under any calls (rules D1 to D16). Assumes nothing.
 pub mod Waiting
 pub mod Steps
 pub mod Kept

@@ -1,4 +1,4 @@
--- The master under any calls (01 'Link rules', 'Master'). Assumes nothing.
+-- The master under any calls (rules M1 to M17). Assumes nothing.
 pub mod Calls
 pub mod Kept
 pub mod Counts

@@ -1,4 +1,4 @@
--- A timer has not run out under its limit and has from it on, whatever the clock read at its start (01 'Link rules'). Assumes nothing.
+-- A timer has not run out under its limit and has from it on, whatever the clock read at its start (rules K1 to K3). Assumes nothing.
 use mathlib.Core.Path.{_≡_, refl}
 use mathlib.Core.Bool.{true, false}
 use Prim.Native.Nat.{ℕ, _^_, _≤_, _<_}

@@ -1,4 +1,4 @@
--- The desk under any calls (01 'Link rules', 'Desk'): what is proved of it. Assumes nothing.
+-- The desk under any calls (rules D1 to D16): what is proved of it. Assumes nothing.
 pub mod Calls
 pub mod Kept
 pub mod Refused

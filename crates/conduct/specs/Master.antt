@@ -1,4 +1,4 @@
--- The master under any calls (01 'Link rules', 'Master'): what is proved of it. Assumes nothing.
+-- The master under any calls (rules M1 to M17): what is proved of it. Assumes nothing.
 pub mod Calls
 pub mod Kept
 pub mod Counts

@@ -1,4 +1,4 @@
--- What the clock reads so long after a timer's start (01 'Link rules'). Assumes nothing.
+-- What the clock reads so long after a timer's start (rules K1 to K3). Assumes nothing.
 use mathlib.Core.Path.{_≡_}
 use Prim.Native.Nat.{ℕ, _+_, _%_, _^_, _<_}
 use Rattle.clock.specs.Clock.{elapsedOf}
@@ -15,6 +15,6 @@ Elapsed = (start ms : ℕ) → start < 2 ^ 32 → ms < 2 ^ 32 → elapsedOf (clo
 abbrev pub EachReading : Type 0
 EachReading = (start at : ℕ) → start < 2 ^ 32 → at < 2 ^ 32 → clockAfter start (elapsedOf at start) ≡ at
 
--- 01's own case: start at 4,294,967,000 and now 1,704
+-- the case of rule K2: start at 4,294,967,000 and now 1,704
 abbrev pub WrapsAt2000 : Type 0
 WrapsAt2000 = clockAfter 4294967000 2000 ≡ 1704

@@ -1,4 +1,4 @@
--- The step and the search cut the same telegrams (01 'Cutting the stream'). Assumes nothing.
+-- The step and the search cut the same telegrams (rule C8). Assumes nothing.
 use mathlib.Core.Path.{_≡_, refl, ap, ap₂, _∙_}
 use mathlib.Core.List.{List, [], _∷_, _++_, map}
 use Prim.Native.Nat.{ℕ, zero, suc, _+_, _-_, _≤_, _<_}

@@ -1,4 +1,4 @@
--- The paper's numbers and places tell the answers of cutting and reading apart (01 'What the promises say'). Assumes nothing.
+-- The paper's numbers and places tell the answers of cutting and reading apart (rule G3). Assumes nothing.
 use mathlib.Core.Path.{_≡_, refl}
 use Rattle.records.proofs.Apart.{one-refusal}
 use Rattle.reading.proofs.Apart.{one-reading}

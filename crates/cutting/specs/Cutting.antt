@@ -1,4 +1,4 @@
--- The next telegram in bytes, cut and then read (01 'Cutting the stream'). Assumes nothing.
+-- The next telegram in bytes, cut and then read (rule C9). Assumes nothing.
 use Prim.Native.Nat.{ℕ}
 use mathlib.Core.Path.{_≡_}
 use mathlib.Core.Bool.{cond}

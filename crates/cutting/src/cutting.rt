@@ -1,4 +1,4 @@
-// The next telegram of a lent slice, cut and then read (01 'Cutting the stream').
+// The next telegram of a lent slice, cut and then read (rule C9).
 ghost use mathlib.Core.Path.{_≡_};
 ghost use Rattle.cutting.specs.Cutting.{cuttingOf, nextOf};
 use forms::lines::is_line;

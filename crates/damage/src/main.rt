@@ -1,4 +1,4 @@
-// Runs damaged telegrams: case h of 01 'Bench cases' with every byte replaced by every value, and inputs of many lengths.
+// Runs damaged telegrams: the telegram of case h (rule W10) with every byte replaced by every value, and inputs of many lengths.
 mod rows;
 mod telegrams;
 

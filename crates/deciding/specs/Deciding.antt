@@ -1,5 +1,5 @@
 -- Which rule settles what the desk hears, by the line, whether it is good, the last number taken and the frame
--- (01 'Link rules', 'Desk'). Assumes nothing.
+-- (rules D5 to D9). Assumes nothing.
 use Prim.Native.Nat.{ℕ}
 use Prim.Native.Char.{code}
 use mathlib.Core.Bool.{Bool, cond}

@@ -1,4 +1,4 @@
-// Which rule settles a hearing, by the line, whether it is good, the last number taken and the frame (01 'Link rules', 'Desk').
+// Which rule settles a hearing, by the line, whether it is good, the last number taken and the frame (rules D5 to D9).
 ghost use mathlib.Core.Path.{_≡_};
 ghost use Rattle.records.specs.Refusals.{refusalOf};
 ghost use Rattle.deciding.specs.Deciding.{matterOf, rulingOf, repeats, matterIn, goodFrame, badFrame, rulingIn};

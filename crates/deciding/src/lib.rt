@@ -1,2 +1,2 @@
-// Which rule settles what the desk hears (01 'Link rules', 'Desk').
+// Which rule settles what the desk hears (rules D5 to D9).
 pub mod deciding;

@@ -1,4 +1,4 @@
--- The bytes that a run lets arrive spoiled are those that reading refuses with 1 to 7 (01 'Numbered answers'). Assumes nothing.
+-- The bytes that a run lets arrive spoiled are those that reading refuses with 1 to 7 (rules J3, R1 to R7). Assumes nothing.
 use mathlib.Core.Path.{_≡_, refl, ap}
 use mathlib.Core.Bool.{true}
 use mathlib.Core.List.{List, [], _∷_, _++_}

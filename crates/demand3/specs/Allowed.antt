@@ -1,4 +1,4 @@
--- Which runs the demand's line allows; `step` lets more happen (01 'Link rules'). Assumes nothing.
+-- Which runs the demand's line allows; `step` lets more happen (rules J1, J3). Assumes nothing.
 use mathlib.Core.Bool.{Bool, true, false, not}
 use mathlib.Core.List.{List, [], _∷_}
 use Prim.Native.Nat.{ℕ, _^_}

@@ -1,4 +1,4 @@
--- What the desk's calls that hear nothing answer, in the paper's numbers and values (01 'Numbered answers', 'Link rules'). Assumes nothing.
+-- What the desk's calls that hear nothing answer, in the paper's numbers and values (rules D2 to D4). Assumes nothing.
 use Rattle.records.specs.Refusals.{No, refusalOf}
 use Rattle.desk.specs.declared.answers.Outcome as o
 

@@ -1,4 +1,4 @@
--- The desk's calls that hear nothing (01 'Link rules', 'Desk'; 'Numbered answers'). Assumes nothing.
+-- The desk's calls that hear nothing (rules D2 to D4, R17). Assumes nothing.
 use Prim.Native.Nat.{ℕ, _+_}
 use mathlib.Core.Bool.{Bool, false, cond}
 use mathlib.Core.List.{List}

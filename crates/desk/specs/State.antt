@@ -1,4 +1,4 @@
--- The desk's state: its ranges and its start (01 'Link rules', 'Desk'; 'Numbered answers', 15). Assumes nothing.
+-- The desk's state: its ranges and its start (rules D1, E9, E10). Assumes nothing.
 use Prim.Native.Nat.{ℕ}
 use Prim.Native.Char.{code}
 use mathlib.Core.List.{List}

@@ -1,4 +1,4 @@
-// The desk, the slave's end of a line (01 'Link rules', 'Desk'): a state by value, and what each call that hears nothing makes of it.
+// The desk, the slave's end of a line (rules D1 to D4): a state by value, and what each call that hears nothing makes of it.
 pub mod answers;
 pub mod panel;
 pub mod state;

@@ -1,4 +1,4 @@
-// The desk's calls that hear nothing (01 'Link rules', 'Desk'): the clock's tick, and what the panel queues, sets and turns.
+// The desk's calls that hear nothing (rules D2 to D4): the clock's tick, and what the panel queues, sets and turns.
 ghost use mathlib.Core.Path.{_≡_};
 ghost use Prim.Native.Nat.{_<_};
 ghost use Rattle.reading.specs.Answers.{faultOf};

@@ -1,4 +1,4 @@
-// The desk's state, its ranges and its start (01 'Link rules', 'Desk'; 'Numbered answers', 15).
+// The desk's state, its ranges and its start (rules D1, E9, E10).
 ghost use mathlib.Core.Path.{_≡_};
 ghost use Rattle.desk.specs.Answers.{doneOf};
 ghost use Rattle.desk.specs.State.{numbersFit, recordsFit, inRanges, fresh, startOf};

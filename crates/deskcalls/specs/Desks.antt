@@ -1,4 +1,4 @@
--- The desk through the C face, on a state of bytes (include/in656.h; 01 'Link rules', 'Desk'). Assumes nothing.
+-- The desk through the C face, on a state of bytes (include/in656.h; rules F2, F7). Assumes nothing.
 use Prim.Native.Nat.{ℕ}
 use mathlib.Core.Bool.{cond}
 use mathlib.Core.List.{List, []}

@@ -1,4 +1,4 @@
--- What a hearing of the desk answers, in the paper's numbers and values (01 'Numbered answers', 'Link rules'). Assumes nothing.
+-- What a hearing of the desk answers, in the paper's numbers and values (rules D4 to D12). Assumes nothing.
 use Prim.Native.Nat.{ℕ}
 use Prim.Native.Char.{code}
 use mathlib.Core.Bool.{Bool}

@@ -1,4 +1,4 @@
--- What the desk makes of a frame that it hears (01 'Link rules', 'Desk'; 'Numbered answers'). Assumes nothing.
+-- What the desk makes of a frame that it hears (rules E1, E4, D4 to D8). Assumes nothing.
 use Prim.Native.Nat.{ℕ}
 use Prim.Native.Char.{code}
 use mathlib.Core.Bool.{Bool, true, cond}

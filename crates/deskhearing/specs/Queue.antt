@@ -1,4 +1,4 @@
--- The queue of the desk: its oldest record answers t and leaves it (01 'Link rules', 'Desk'). Assumes nothing.
+-- The queue of the desk: its oldest record answers t and leaves it (rule D11). Assumes nothing.
 use Prim.Native.Nat.{_-_}
 use lib.ListN.{getD}
 use Rattle.records.specs.declared.records.Record.{Record}

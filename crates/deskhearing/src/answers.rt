@@ -1,4 +1,4 @@
-// What a hearing of the desk answers (01 'Numbered answers', 'Link rules').
+// What a hearing of the desk answers (rules D4 to D12).
 use records::refusals::Refusal;
 use replying::replying::Source;
 

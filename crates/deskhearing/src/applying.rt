@@ -1,4 +1,4 @@
-// What the rule that settles a hearing makes of state and output (01 'Link rules', 'Desk').
+// What the rule that settles a hearing makes of state and output (rules D5 to D8).
 ghost use mathlib.Core.Path.{_≡_};
 ghost use mathlib.Core.Bool.{true};
 ghost use Prim.Native.Nat.{_≤_, _<_};

@@ -1,4 +1,4 @@
-// Hearing a frame (01 'Link rules', 'Desk'): 15, 14, the first rule, then the rule that settles it.
+// Hearing a frame (rules E1, E4, D4 to D8): 15, 14, the first rule, then the rule that settles it.
 ghost use mathlib.Core.Path.{_≡_};
 ghost use mathlib.Core.Bool.{true};
 ghost use Prim.Native.Nat.{_≤_};

@@ -1,4 +1,4 @@
-// The desk's hearing (01 'Link rules', 'Desk'): what a frame makes of state and output.
+// The desk's hearing (rules D4 to D16): what a frame makes of state and output.
 pub mod answers;
 pub mod applying;
 pub mod hearing;

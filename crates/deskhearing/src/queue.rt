@@ -1,4 +1,4 @@
-// The queue of the desk (01 'Link rules', 'Desk'): its oldest record answers t and leaves it.
+// The queue of the desk (rules D11, D15): its oldest record answers t and leaves it.
 ghost use mathlib.Core.Path.{_≡_};
 ghost use Rattle.deciding.specs.Deciding.{matterOf};
 ghost use Rattle.replying.specs.Replying.{originOf};

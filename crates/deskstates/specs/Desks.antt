@@ -1,4 +1,4 @@
--- A desk as a block (01 'Link rules', 'Desk'; 'Numbered answers', 15). Assumes nothing.
+-- A desk as a block (rules F7, F8). Assumes nothing.
 use mathlib.Core.Path.{_≡_}
 use mathlib.Core.Bool.{cond}
 use mathlib.Core.List.{List, [], _∷_, _++_}

@@ -1,5 +1,5 @@
 // A desk as a block: line, good, last number, key, T1's start, kept, queued, whether a record is set, the stored bytes, the record set
-// for r and the places of the queue (01 'Link rules', 'Desk'; 'Numbered answers', 15).
+// for r and the places of the queue (rules F7, F8).
 ghost use mathlib.Core.Path.{_≡_};
 ghost use lib.ListN.{length};
 ghost use Rattle.laws.specs.Truth.{pad};

@@ -1,4 +1,4 @@
--- The table of forms, and what it says of a type on a line (01 'Telegram forms', 'The three lines and both ends'). Assumes nothing.
+-- The table of forms, and what it says of a type on a line (rules L1 to L19). Assumes nothing.
 use Prim.Native.Nat.{ℕ, zero, suc, _+_, _-_}
 use Prim.Native.Char.{Char, code}
 use mathlib.Core.List.{List, [], _∷_, map}

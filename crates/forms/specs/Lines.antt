@@ -1,4 +1,4 @@
--- The table of lines (01 'The three lines and both ends', 'Link rules'). Assumes nothing.
+-- The table of lines (rules L1 to L4, V17, K4, M7). Assumes nothing.
 use Prim.Native.Nat.{ℕ, zero, suc, _-_}
 use Prim.Native.Char.{Char, code}
 use mathlib.Core.List.{List, [], _∷_}

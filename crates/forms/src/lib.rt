@@ -1,3 +1,3 @@
-// The table of lines and the table of forms (01 'The three lines and both ends', 'Telegram forms').
+// The table of lines and the table of forms (rules L1 to L19).
 pub mod lines;
 pub mod table;

@@ -1,4 +1,4 @@
-// The lines (01 'The three lines and both ends', 'Link rules'), one row each: all that depends on the line alone.
+// The lines (rules L1 to L4, V17, K4, M7), one row each: all that depends on the line alone.
 ghost use mathlib.Core.Path.{_≡_};
 ghost use Rattle.forms.specs.Lines.{isLine, lineOf, isKey};
 

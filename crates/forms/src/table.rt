@@ -1,4 +1,4 @@
-// The telegram forms (01 'Telegram forms', 'The three lines and both ends'), one row each, and what they say of a line.
+// The telegram forms (rules L1 to L19), one row each, and what they say of a line.
 ghost use mathlib.Core.Path.{_≡_};
 ghost use Prim.Native.Nat.{_≤_};
 ghost use Rattle.forms.specs.Forms.{forms, onLine, ofType, ofLetter, isData, testOf, lookIn, formOf, byMaster, bySlave, dataType, countOf, widthOf};

@@ -1,4 +1,4 @@
--- A hit, and a whole telegram heard from any state (01 'Cutting the stream'). Assumes nothing.
+-- A hit, and a whole telegram heard from any state (rule C4). Assumes nothing.
 use mathlib.Core.Path.{_≡_, refl, sym, ap, _∙_}
 use mathlib.Core.List.{List, [], _∷_, _++_, map, append-assoc}
 use Prim.Native.Nat.{ℕ, _+_, _≤_, _<_}

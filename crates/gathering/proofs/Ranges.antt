@@ -1,4 +1,4 @@
--- From the start the gatherer keeps its ranges, whatever it hears (01 'Numbered answers', 15). Assumes nothing.
+-- From the start the gatherer keeps its ranges, whatever it hears (rules E3, E12). Assumes nothing.
 use mathlib.Core.Path.{_≡_, refl, _∙_}
 use mathlib.Core.List.{List, [], _∷_}
 use Prim.Native.Nat.{ℕ, _+_, _≤_}

@@ -1,4 +1,4 @@
--- Gathering a telegram item by item (01 'Cutting the stream'). Assumes nothing.
+-- Gathering a telegram item by item (rules C1 to C6, E12). Assumes nothing.
 use Prim.Native.Nat.{ℕ, _+_}
 use mathlib.Core.Path.{_≡_}
 use mathlib.Core.Bool.{cond}

@@ -1,4 +1,4 @@
--- Items heard one after another, the telegrams that they hand out, and what is promised of them (01 'Cutting the stream'). Assumes nothing.
+-- Items heard one after another, the telegrams that they hand out, and what is promised of them (rules C1 to C4, C8). Assumes nothing.
 use mathlib.Core.Path.{_≡_}
 use mathlib.Core.List.{List, [], _∷_, _++_, map}
 use Prim.Native.Nat.{ℕ, _≤_, _<_}

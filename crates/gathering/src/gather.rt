@@ -1,4 +1,4 @@
-// Gathering a telegram item by item, in a state by value (01 'Cutting the stream').
+// Gathering a telegram item by item, in a state by value (rules C1 to C6, E12).
 ghost use mathlib.Core.Path.{_≡_};
 ghost use Prim.Native.Nat.{_<_};
 ghost use Rattle.characters.specs.Marks.{longest};

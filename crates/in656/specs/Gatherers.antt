@@ -1,4 +1,4 @@
--- Gathering through the C face, on a state of bytes (include/in656.h; 01 'Cutting the stream'). Assumes nothing.
+-- Gathering through the C face, on a state of bytes (include/in656.h; rules F1, F7). Assumes nothing.
 use Prim.Native.Nat.{ℕ}
 use mathlib.Core.Bool.{cond}
 use mathlib.Core.List.{List}

@@ -1,4 +1,4 @@
--- The master through the C face, on a state of bytes (include/in656.h; 01 'Link rules', 'Master'). Assumes nothing.
+-- The master through the C face, on a state of bytes (include/in656.h; rules F3, F7). Assumes nothing.
 use Prim.Native.Nat.{ℕ}
 use mathlib.Core.Bool.{cond}
 use mathlib.Core.List.{List, []}

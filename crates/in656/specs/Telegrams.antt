@@ -1,4 +1,4 @@
--- Reading, writing and searching through the C face (include/in656.h; 01 'Numbered answers'). Assumes nothing.
+-- Reading, writing and searching through the C face (include/in656.h; rules F1, F5, F7). Assumes nothing.
 use Prim.Native.Nat.{ℕ}
 use mathlib.Core.Bool.{cond}
 use mathlib.Core.List.{List}

@@ -1,4 +1,4 @@
--- What a frame that the master hears is to the telegram that it waits on (01 'Link rules'). Assumes nothing.
+-- What a frame that the master hears is to the telegram that it waits on (rules M8 to M13). Assumes nothing.
 use Prim.Native.Nat.{ℕ}
 use mathlib.Core.Bool.{cond}
 use mathlib.Core.List.{List}

@@ -1,4 +1,4 @@
--- The poll, failed sendings and the permitted answers (01 'Link rules'). Assumes nothing.
+-- The poll, failed sendings and the permitted answers (rules M7, M10, M12). Assumes nothing.
 use Prim.Native.Nat.{ℕ}
 use Prim.Native.Char.{code}
 use mathlib.Core.Bool.{Bool, cond}

@@ -1,4 +1,4 @@
-// What a heard frame is to a telegram of a type that was sent on a line with a number (01 'Link rules').
+// What a heard frame is to a telegram of a type that was sent on a line with a number (rules M8 to M13).
 ghost use mathlib.Core.Path.{_≡_};
 ghost use Rattle.reading.specs.Answers.{answerOf};
 ghost use Rattle.judging.specs.Judging.{judgedOf, answeredBy, takenOf, judgeOf};

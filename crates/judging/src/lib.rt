@@ -1,3 +1,3 @@
-// What a frame that the master hears is to the telegram that it waits on (01 'Link rules').
+// What a frame that the master hears is to the telegram that it waits on (rules M7 to M13).
 pub mod judging;
 pub mod rules;

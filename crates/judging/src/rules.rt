@@ -1,4 +1,4 @@
-// The poll, failed sendings and the permitted answers (01 'Link rules').
+// The poll, failed sendings and the permitted answers (rules M7, M10, M12).
 ghost use mathlib.Core.Path.{_≡_};
 ghost use mathlib.Core.List.{[], _∷_};
 ghost use Rattle.laws.specs.Truth.{oneOf};

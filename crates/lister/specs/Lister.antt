@@ -1,4 +1,4 @@
--- The state of a listing between two turns, what refuses a turn, and what a turn does (01 'Bench cases', 'Numbered answers'). Assumes nothing.
+-- The state of a listing between two turns, what refuses a turn, and what a turn does (rules P1 to P5, P10). Assumes nothing.
 use Prim.Native.Nat.{ℕ, _-_, _^_}
 use Prim.Native.Char.{code}
 use mathlib.Core.Bool.{Bool, cond}

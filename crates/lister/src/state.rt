@@ -1,4 +1,4 @@
-// The state of a listing between two turns, what refuses a turn, and what a turn does (01 'Bench cases', 'Numbered answers').
+// The state of a listing between two turns, what refuses a turn, and what a turn does (rules P1 to P5, P10).
 ghost use mathlib.Core.Path.{_≡_};
 ghost use Rattle.reading.specs.Answers.{faultOf};
 ghost use Rattle.lister.specs.Lister.{atFirst, placeFits, listFault, lineNamed, lineFor, lineTask, readTask, taskFor, ended};

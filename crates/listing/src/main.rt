@@ -1,4 +1,4 @@
-// The listing program (01 'Bench cases'): lists the telegrams of standard input. It reads, calls a turn of the listing, and writes.
+// The listing program (rules P1 to P6): lists the telegrams of standard input. It reads, calls a turn of the listing, and writes.
 use captures::turn::list;
 use lister::state::Lister;
 use lister::state::Wants;

@@ -1,4 +1,4 @@
--- The lines of the listing (01 'Bench cases'). Assumes nothing.
+-- The lines of the listing (rules P2, P10). Assumes nothing.
 use Prim.Native.Nat.{ℕ}
 use mathlib.Core.Bool.{cond}
 use mathlib.Core.List.{List, [], _∷_, _++_}

@@ -1,2 +1,2 @@
-// The line of a telegram in a listing (01, the end of 'Bench cases').
+// The line of a telegram in a listing (rule P2).
 pub mod lines;

@@ -1,4 +1,4 @@
-// One line of the listing (01 'Bench cases').
+// One line of the listing (rules P2, P10).
 ghost use mathlib.Core.Path.{_≡_};
 ghost use Prim.Native.Nat.{_≤_};
 ghost use lib.ListN.{length};

@@ -1,4 +1,4 @@
--- What the master's calls answer, in the paper's numbers and values (01 'Link rules', 'Numbered answers'). Assumes nothing.
+-- What the master's calls answer, in the paper's numbers and values (rules M8, M10 to M16). Assumes nothing.
 use Prim.Native.Nat.{ℕ}
 use Rattle.records.specs.Refusals.{No, refusalOf}
 use Rattle.records.specs.declared.records.Record.{Record}

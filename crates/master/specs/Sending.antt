@@ -1,4 +1,4 @@
--- What the master's offer and tick do (01 'Link rules'). Assumes nothing.
+-- What the master's offer and tick do (rules M2 to M7, M10). Assumes nothing.
 use Prim.Native.Nat.{ℕ, _+_}
 use mathlib.Core.Bool.{Bool, false, cond}
 use mathlib.Core.List.{List}

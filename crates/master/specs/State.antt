@@ -1,4 +1,4 @@
--- The master's state: its start, its ranges, and what changes it (01 'Link rules', 'Numbered answers'). Assumes nothing.
+-- The master's state: its start, its ranges, and what changes it (rules M1, M3, M14, M15, E9, E11). Assumes nothing.
 use Prim.Native.Nat.{ℕ}
 use Prim.Native.Char.{code}
 use mathlib.Core.Bool.{Bool, true, false, cond}

@@ -1,4 +1,4 @@
-// What the master's calls answer (01 'Link rules', 'Numbered answers').
+// What the master's calls answer (rules M8, M10 to M16).
 use reading::answers::Reading;
 use records::records::Record;
 use records::refusals::Refusal;

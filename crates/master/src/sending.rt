@@ -1,4 +1,4 @@
-// What the master sends: offers, polls, and telegrams again (01 'Link rules').
+// What the master sends: offers, polls, and telegrams again (rules M2 to M7).
 ghost use mathlib.Core.Path.{_≡_};
 ghost use mathlib.Core.Bool.{true, false};
 ghost use Prim.Native.Nat.{_≤_, _<_};

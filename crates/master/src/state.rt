@@ -1,4 +1,4 @@
-// The master's state by value, its ranges and its start (01 'Link rules', 'Numbered answers').
+// The master's state by value, its ranges and its start (rules M1, E1, E9, E11).
 ghost use mathlib.Core.Path.{_≡_};
 ghost use Rattle.reading.specs.Answers.{faultOf};
 ghost use Rattle.master.specs.Answers.{toldOf};

@@ -1,4 +1,4 @@
--- What the master does with a frame that it hears (01 'Link rules'). Assumes nothing.
+-- What the master does with a frame that it hears (rules M8 to M14). Assumes nothing.
 use Prim.Native.Nat.{ℕ}
 use mathlib.Core.Bool.{true, cond}
 use mathlib.Core.List.{List}

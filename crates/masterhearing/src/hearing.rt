@@ -1,4 +1,4 @@
-// What the master hears: answers, failed sendings, and what it ignores (01 'Link rules').
+// What the master hears: answers, failed sendings, and what it ignores (rules M8 to M14).
 ghost use mathlib.Core.Path.{_≡_};
 ghost use mathlib.Core.Bool.{true, false};
 ghost use Prim.Native.Nat.{_≤_};

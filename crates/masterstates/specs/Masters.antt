@@ -1,4 +1,4 @@
--- A master as a block (01 'Link rules', 'Master'; 'Numbered answers', 15). Assumes nothing.
+-- A master as a block (rules F7, F8). Assumes nothing.
 use mathlib.Core.List.{List, _++_}
 use Prim.Native.Nat.{ℕ, _+_, _<_, _^_}
 use lib.Dec.{eqb}

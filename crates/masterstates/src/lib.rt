@@ -1,2 +1,2 @@
-// The master's state as a block of bytes (01 'The three lines and both ends': the C face; 'Numbered answers', 15).
+// The master's state as a block of bytes (rules F7, F8).
 pub mod masters;

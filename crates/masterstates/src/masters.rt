@@ -1,4 +1,4 @@
-// A master as a block: line, good, number, count, T0's and T2's start, and its record (01 'Link rules', 'Master'; 'Numbered answers', 15).
+// A master as a block: line, good, number, count, T0's and T2's start, and its record (rules F7, F8).
 ghost use mathlib.Core.Path.{_≡_};
 ghost use Rattle.master.specs.State.{unstarted};
 ghost use Rattle.words.specs.Fields.{sameText};

@@ -1,4 +1,4 @@
--- What each packet permits (01 'Telegram forms', 'Values'). Assumes nothing.
+-- What each packet permits (rules V1 to V17). Assumes nothing.
 use Prim.Native.Nat.{ℕ}
 use Prim.Native.Char.{code}
 use mathlib.Core.Bool.{Bool, true, false, cond}

@@ -1,2 +1,2 @@
-// What each packet type permits (01 'Telegram forms', 'Values').
+// What each packet type permits (rules V1 to V17).
 pub mod packets;

@@ -1,4 +1,4 @@
-// What each packet permits (01 'Telegram forms', 'Values'): a match over the packet letter, with the value's bytes beside it.
+// What each packet permits (rules V1 to V17): a match over the packet letter, with the value's bytes beside it.
 ghost use mathlib.Core.Path.{_≡_};
 ghost use Rattle.packets.specs.Packets.{leadOf, isDecimal, permits, ruled, permitsNumber, digit, inChannel, inPosition, operational, inMode, inWatch, inEffect, inRequest, inApproval};
 use characters::characters::in_set;

@@ -1,4 +1,4 @@
--- Each end sends on each line the types of 01 'The three lines and both ends', and no others. Assumes nothing.
+-- Each end sends on each line the types of rules L1 to L4, and no others. Assumes nothing.
 use mathlib.Core.Path.{_≡_, refl, sym, _∙_}
 use mathlib.Core.Bool.{Bool, true, false, cond}
 use Prim.Native.Nat.{ℕ}

@@ -1,4 +1,4 @@
--- Cases a to j of 01 'Bench cases', as rows of one table under one theorem. Assumes nothing.
+-- Cases a to j (rules W9 and W10), as rows of one table under one theorem. Assumes nothing.
 use mathlib.Core.Path.{_≡_}
 use mathlib.Core.List.{List, [], _∷_, _++_}
 use Prim.Native.Nat.{ℕ}

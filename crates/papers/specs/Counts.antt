@@ -1,4 +1,4 @@
--- The table of forms has the byte counts of 01 'Telegram forms'. Assumes nothing.
+-- The table of forms has the byte counts of rules L6 to L19. Assumes nothing.
 use mathlib.Core.Path.{_≡_}
 use mathlib.Core.List.{List, [], _∷_, map}
 use Prim.Native.Nat.{ℕ, _+_}

@@ -1,4 +1,4 @@
--- An accepted telegram of each form on each of its lines, made by hand from 01 'The telegram' and 'Telegram forms'. Assumes nothing.
+-- An accepted telegram of each form on each of its lines, made by hand from rules B1 to B5, L6 to L19 and V1 to V17. Assumes nothing.
 use mathlib.Core.Path.{_≡_}
 use mathlib.Core.Bool.{Bool, true, not}
 use mathlib.Core.List.{List, [], _∷_, map}

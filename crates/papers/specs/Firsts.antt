@@ -1,4 +1,4 @@
--- 'First' in refusals 9, 10 and 11 of 01 'Numbered answers', said of a telegram's bytes and not by a search. Assumes nothing.
+-- 'First' in rules R9, R10 and R11, said of a telegram's bytes and not by a search. Assumes nothing.
 use mathlib.Core.Path.{_≡_}
 use mathlib.Core.Bool.{Bool, true, false}
 use mathlib.Core.List.{List}

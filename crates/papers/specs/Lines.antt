@@ -1,4 +1,4 @@
--- The table of forms has the lines and senders of 01 'The three lines and both ends'. Assumes nothing.
+-- The table of forms has the lines and senders of rules L1 to L3. Assumes nothing.
 use mathlib.Core.Path.{_≡_}
 use mathlib.Core.Bool.{Bool, true, false, cond, not}
 use mathlib.Core.List.{List, [], _∷_, map}

@@ -1,4 +1,4 @@
--- A refusal of reading is the first check that finds a fault, and each of 1 to 11 occurs (01 'Numbered answers'). Assumes nothing.
+-- A refusal of reading is the first check that finds a fault, and each of 1 to 11 occurs (rules W2, R1 to R11). Assumes nothing.
 use mathlib.Core.Path.{_≡_}
 use mathlib.Core.Bool.{true, false}
 use mathlib.Core.List.{List, [], _∷_, _++_, map}

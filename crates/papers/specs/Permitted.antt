@@ -1,4 +1,4 @@
--- What each packet permits, as the texts of 01 'Telegram forms', 'Values', and that the definitions permit just their characters. Assumes nothing.
+-- What each packet permits, as the texts of rules V1 to V17, and that the definitions permit just their characters. Assumes nothing.
 use mathlib.Core.Path.{_≡_}
 use mathlib.Core.Bool.{Bool, true, false, cond, not}
 use mathlib.Core.List.{List, [], _∷_}
@@ -34,7 +34,7 @@ anywhere letters places = are letters "ANrtc5oGFnBKO1" "123" places
 abbrev pub digits : String
 digits = "0123456789"
 
--- the 75 codes of the limited character set (01 'The telegram'): the six national letters stand in the order of their codes
+-- the 75 codes of the limited character set (rule B7): the six national letters stand in the order of their codes
 abbrev pub characterSet : String
 characterSet = "%()-:+ 0123456789ABCDEFGHIJKLMNOPQRSTUVWXYZabcdefghijklmnopqrstuvwxyz[\\]{|}"
 

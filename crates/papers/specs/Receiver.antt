@@ -1,4 +1,4 @@
--- The receiver sums all bytes and the checksum, and gets zero (001 section 4.4; 01 'The telegram'). Assumes nothing.
+-- The receiver sums all bytes and the checksum, and gets zero (001 section 4.4; rule B6). Assumes nothing.
 use mathlib.Core.Path.{_≡_}
 use mathlib.Core.Bool.{true, cond}
 use mathlib.Core.List.{List}

@@ -1,4 +1,4 @@
--- The limited character set of 01 'The telegram', counted, and the table's letters in it. Assumes nothing.
+-- The limited character set (rules B7 and B8), counted, and the table's letters in it. Assumes nothing.
 use mathlib.Core.Path.{_≡_}
 use mathlib.Core.Bool.{Bool, true, false, cond}
 use Prim.Native.Nat.{ℕ, zero, suc, _≤_}

@@ -1,4 +1,4 @@
--- What writing refuses first, and what it leaves in the output (01 'Numbered answers'). Assumes nothing.
+-- What writing refuses first, and what it leaves in the output (rules W4, W6). Assumes nothing.
 use mathlib.Core.Path.{_≡_}
 use mathlib.Core.List.{List, [], _∷_, map}
 use Prim.Native.Nat.{ℕ, _≤_}

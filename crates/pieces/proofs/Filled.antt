@@ -1,4 +1,4 @@
--- What `list_part` leaves in the output, and what is left to list (01 'Bench cases'). Assumes nothing.
+-- What `list_part` leaves in the output, and what is left to list (rule P2). Assumes nothing.
 use mathlib.Core.Path.{_≡_, refl, sym, ap, _∙_}
 use mathlib.Core.Bool.{Bool, true, false, cond}
 use mathlib.Core.List.{List, [], _∷_, _++_, append-assoc}

@@ -1,4 +1,4 @@
--- A capture read in any pieces is listed as in one go (01 'Bench cases'). Assumes nothing.
+-- A capture read in any pieces is listed as in one go (rule P5). Assumes nothing.
 use mathlib.Core.Path.{_≡_, refl, sym, ap, _∙_}
 use mathlib.Core.List.{List, [], _∷_, _++_, append-nil, append-assoc}
 use Prim.Native.Nat.{ℕ, _+_, _≤_}

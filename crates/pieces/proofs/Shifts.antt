@@ -1,4 +1,4 @@
--- Searching in a stream from a place on is searching in what is left from there (01 'Cutting the stream'). Assumes nothing.
+-- Searching in a stream from a place on is searching in what is left from there (rule C7). Assumes nothing.
 use mathlib.Core.Path.{_≡_, refl, ap, ap₂, _∙_}
 use mathlib.Core.List.{List, [], _∷_, _++_}
 use Prim.Native.Nat.{ℕ, zero, suc, _+_, _-_, _≤_}

@@ -1,4 +1,4 @@
--- A capture may be listed in pieces (01 'Bench cases', 'Cutting the stream'). Assumes nothing.
+-- A capture may be listed in pieces (rule P5). Assumes nothing.
 use mathlib.Core.Path.{_≡_, refl, sym, ap, _∙_}
 use mathlib.Core.List.{List, [], _∷_, _++_, append-assoc}
 use Prim.Native.Nat.{ℕ, zero, suc, _+_, _-_, _≤_, _<_}

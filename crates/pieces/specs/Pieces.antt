@@ -1,4 +1,4 @@
--- The lines of a slice's telegrams (01 'Bench cases'), and what is kept of a slice for the next piece. Assumes nothing.
+-- The lines of a slice's telegrams (rules P2, P5), and what is kept of a slice for the next piece. Assumes nothing.
 use Prim.Native.Nat.{ℕ, zero, suc, _+_, _-_, _%_, _^_, max}
 use mathlib.Core.Bool.{Bool, true, false, cond}
 use mathlib.Core.List.{List, [], _∷_, _++_}

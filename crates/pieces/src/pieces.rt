@@ -1,4 +1,4 @@
-// The lines of a lent slice, and what is kept of it for the next piece of a capture (01 'Bench cases', 'Cutting the stream').
+// The lines of a lent slice, and what is kept of it for the next piece of a capture (rules P2, P5).
 ghost use mathlib.Core.Path.{_≡_};
 ghost use lib.ListN.{length};
 ghost use Rattle.pieces.specs.Pieces.{nextLineOf, listPart, keptFrom, tailOf, tailPut};

@@ -1,4 +1,4 @@
--- Two ends, whatever they are made of, and the line between them; a run of them (01 'Link rules'). Assumes nothing.
+-- Two ends, whatever they are made of, and the line between them; a run of them (rules J1 to J3). Assumes nothing.
 use mathlib.Core.Bool.{Bool, true, false}
 use mathlib.Core.List.{List, [], _∷_}
 use Prim.Native.Nat.{ℕ}

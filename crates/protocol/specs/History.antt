@@ -1,4 +1,4 @@
--- What happened on a line, newest first, and what is read off it (01 'Link rules'). Assumes nothing.
+-- What happened on a line, newest first, and what is read off it (rules J4 to J10). Assumes nothing.
 use mathlib.Core.Bool.{Bool, true, false, cond}
 use mathlib.Core.List.{List, [], _∷_}
 use Prim.Native.Nat.{ℕ, suc}

@@ -1,4 +1,4 @@
--- What the proof of demand 3 uses of the two ends: the link rules without times, bytes and panel (01 'Link rules'). It is no part of the
+-- What the proof of demand 3 uses of the two ends: the link rules without times, bytes and panel (rules M14, M15, D4, D5, D7, D8). It is no part of the
 -- statement; the small definitions in front are shared by what the ends must do and by what the proof lets them do. Assumes nothing.
 use mathlib.Core.Path.{_≡_}
 use mathlib.Core.Bool.{Bool, true, false, not}

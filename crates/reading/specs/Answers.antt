@@ -1,4 +1,4 @@
--- What reading and writing answer, in the paper's numbers and values (01 'Numbered answers'). Assumes nothing.
+-- What reading and writing answer, in the paper's numbers and values (rules W1, W2, G3). Assumes nothing.
 use mathlib.Core.Path.{_≡_}
 use Prim.Native.Nat.{ℕ, _+_}
 use mathlib.Core.List.{List, [], _∷_}

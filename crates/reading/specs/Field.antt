@@ -1,4 +1,4 @@
--- The data field: its packets, checks 8 to 11, and its values (01 'Telegram forms', 'Numbered answers'). Assumes nothing.
+-- The data field: its packets, checks 8 to 11, and its values (rules L5, R8 to R11). Assumes nothing.
 use Prim.Native.Nat.{ℕ, zero, suc, _+_}
 use mathlib.Core.Bool.{cond}
 use mathlib.Core.List.{List, [], _∷_, _++_}

@@ -1,4 +1,4 @@
--- A telegram's frame, and checks 1 to 7 (01 'The telegram', 'Numbered answers'). Assumes nothing.
+-- A telegram's frame, and checks 1 to 7 (rules B1 to B5, R1 to R7). Assumes nothing.
 use Prim.Native.Nat.{ℕ, _+_, _-_}
 use Prim.Native.Char.{code}
 use mathlib.Core.Bool.{Bool, true, false}

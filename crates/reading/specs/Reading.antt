@@ -1,4 +1,4 @@
--- What bytes on a line read as (01 'Numbered answers'). Assumes nothing.
+-- What bytes on a line read as (rules W1, W2). Assumes nothing.
 use Prim.Native.Nat.{ℕ, _-_}
 use Prim.Native.Char.{code}
 use mathlib.Core.Bool.{cond}

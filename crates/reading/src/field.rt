@@ -1,4 +1,4 @@
-// The data field: checks 9 to 11 (01 'Numbered answers').
+// The data field: checks 9 to 11 (rules R9 to R11).
 ghost use mathlib.Core.Path.{_≡_};
 ghost use Rattle.forms.specs.Forms.{slotsOf};
 ghost use Rattle.reading.specs.Field.{outside, wrongLetter, badValue, misshapen};

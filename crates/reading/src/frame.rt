@@ -1,4 +1,4 @@
-// A telegram's frame: checks 1 to 7 (01 'Numbered answers'), and what stands around the data field.
+// A telegram's frame: checks 1 to 7 (rules R1 to R7, B1 to B5), and what stands around the data field.
 ghost use mathlib.Core.Path.{_≡_};
 ghost use mathlib.Core.List.{[], _∷_};
 ghost use Prim.Native.Nat.{_+_, _-_, _/_, _%_, _≤_};

@@ -1,4 +1,4 @@
-// Reading a telegram (01 'Numbered answers'): 15 before all, then checks 1 to 11 in order, then its record and number.
+// Reading a telegram (rules W1, W2): 15 before all, then checks 1 to 11 in order, then its record and number.
 ghost use mathlib.Core.Path.{_≡_};
 ghost use Prim.Native.Nat.{_-_};
 ghost use Rattle.forms.specs.Forms.{slotsOf};

@@ -1,4 +1,4 @@
--- A record's type and values, and the record of a type and values (01 'Telegram forms'). Assumes nothing.
+-- A record's type and values, and the record of a type and values (rules L6 to L19, V18). Assumes nothing.
 use mathlib.Core.Path.{_≡_}
 use Prim.Native.Nat.{ℕ}
 use Prim.Native.Char.{code}
@@ -29,7 +29,7 @@ typeOf (RadioData k) = code "K"
 typeOf (RadioUpdate k t) = code "O"
 typeOf (Transponder k w x y z) = code "1"
 
--- the letter of the first packet (01 'Telegram forms')
+-- the letter of the first packet (rules L6 to L19)
 abbrev pub letterOf : Record → ℕ
 letterOf (Approved a) = code "A"
 letterOf (Rejected n) = code "N"

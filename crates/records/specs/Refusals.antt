@@ -1,4 +1,4 @@
--- A refusal in the paper's values: its number and its place (01 'Numbered answers'). Assumes nothing.
+-- A refusal in the paper's values: its number and its place (rules R1 to R17). Assumes nothing.
 use mathlib.Core.Path.{_≡_}
 use Prim.Native.Nat.{ℕ}
 use Rattle.records.specs.declared.refusals.Refusal.{Refusal}

@@ -1,3 +1,3 @@
-// The records and the numbered refusals (01 'Telegram forms', 'Numbered answers').
+// The records and the numbered refusals (rules L6 to L19, R1 to R17).
 pub mod records;
 pub mod refusals;

@@ -1,4 +1,4 @@
-// The records (01 'Telegram forms'): a case for each telegram form, and a number for each value that it carries.
+// The records (rules L6 to L19, V18): a case for each telegram form, and a number for each value that it carries.
 // A number is wide enough that a wrong one can be written down.
 ghost use mathlib.Core.Path.{_≡_};
 ghost use lib.ListN.{length};

@@ -1,4 +1,4 @@
-// The refusals (01 'Numbered answers'), a case each; a case holds its place where the paper does not fix it.
+// The refusals (rules R1 to R17), a case each; a case holds its place where the paper does not fix it.
 ghost use mathlib.Core.Path.{_≡_};
 ghost use Rattle.records.specs.Refusals.{refusalOf};
 

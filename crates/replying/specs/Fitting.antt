@@ -1,4 +1,4 @@
--- Which records and key positions may answer on a line (01 'Link rules', 'Desk'). Assumes nothing.
+-- Which records and key positions may answer on a line (rules D2, D3, E10). Assumes nothing.
 use Prim.Native.Nat.{ℕ}
 use Prim.Native.Char.{code}
 use mathlib.Core.Bool.{Bool, true, cond}

@@ -1,4 +1,4 @@
--- What answers a handled telegram (01 'Link rules', 'Desk'; 'Numbered answers'). Assumes nothing.
+-- What answers a handled telegram (rules D9 to D13). Assumes nothing.
 use Prim.Native.Nat.{ℕ}
 use Prim.Native.Char.{code}
 use mathlib.Core.Bool.{cond}

@@ -1,4 +1,4 @@
--- What the desk keeps for later answers: its queue, and the length of its stored answer (01 'Link rules', 'Desk'). Assumes nothing.
+-- What the desk keeps for later answers: its queue, and the length of its stored answer (rules D11, E10). Assumes nothing.
 use Prim.Native.Nat.{ℕ}
 use mathlib.Core.Bool.{Bool, cond, not}
 use mathlib.Core.List.{List, [], _∷_}

@@ -1,4 +1,4 @@
-// Which records and key positions may answer on a line (01 'Link rules', 'Desk').
+// Which records and key positions may answer on a line (rules D2, D3, E10).
 ghost use mathlib.Core.Path.{_≡_};
 ghost use Rattle.replying.specs.Fitting.{mayReply, keyFits, wantedFits};
 use crate::replying::Wanted;

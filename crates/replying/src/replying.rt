@@ -1,4 +1,4 @@
-// The choice of an answer to a handled telegram (01 'Link rules', 'Desk').
+// The choice of an answer to a handled telegram (rules D9 to D13).
 ghost use mathlib.Core.Path.{_≡_};
 ghost use Rattle.deciding.specs.Deciding.{matterOf};
 ghost use Rattle.replying.specs.Replying.{originOf, keyOn, askedOf, polledOf, replyOf};

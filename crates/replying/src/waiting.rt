@@ -1,4 +1,4 @@
-// What the desk keeps for later answers: the places of its queue, and the length of its stored answer (01 'Link rules', 'Desk').
+// What the desk keeps for later answers: the places of its queue, and the length of its stored answer (rules D11, E10).
 ghost use mathlib.Core.Path.{_≡_};
 ghost use lib.ListN.{take};
 ghost use Rattle.laws.specs.Truth.{every};

@@ -1,4 +1,4 @@
--- Both round trips of reading and writing, and what follows from them (01 'The telegram', 'Numbered answers'). Assumes nothing.
+-- Both round trips of reading and writing, and what follows from them (rules W7, W8). Assumes nothing.
 use mathlib.Core.Path.{_≡_, refl, sym, _∙_}
 use mathlib.Core.Bool.{true}
 use Prim.Native.Nat.{ℕ, _+_}

@@ -1,4 +1,4 @@
--- What is proved of reading and writing together (the user's second demand; 01 'The telegram', 'Numbered answers'). Assumes nothing.
+-- What is proved of reading and writing together (the user's second demand; rules W7, W8). Assumes nothing.
 use mathlib.Core.Path.{_≡_}
 use mathlib.Core.Bool.{true}
 use mathlib.Core.List.{List, _++_}

@@ -1,4 +1,4 @@
--- What the search looks for: the next CR, and from it back the nearest LF (01 'Cutting the stream'). Assumes nothing.
+-- What the search looks for: the next CR, and from it back the nearest LF (rules C2, C3, C5). Assumes nothing.
 use mathlib.Core.Path.{_≡_}
 use mathlib.Core.List.{List}
 use Prim.Native.Nat.{ℕ, _+_, _-_, _≤_, _<_}

@@ -1,4 +1,4 @@
--- The search for the next telegram in bytes (01 'Cutting the stream'). Assumes nothing.
+-- The search for the next telegram in bytes (rules C7, C9). Assumes nothing.
 use Prim.Native.Nat.{ℕ, _+_, _-_}
 use mathlib.Core.List.{List, [], _∷_}
 use lib.ListN.{length, take, drop}

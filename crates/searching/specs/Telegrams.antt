@@ -1,4 +1,4 @@
--- Telegrams in bytes, told without any machine, and what the search answers (01 'Cutting the stream'). Assumes nothing.
+-- Telegrams in bytes, told without any machine, and what the search answers (rules C5, C7). Assumes nothing.
 use mathlib.Core.Path.{_≡_}
 use mathlib.Core.Logic.{_↔_}
 use mathlib.Core.List.{List, []}

@@ -1,4 +1,4 @@
-// The search for the next telegram over a lent slice (01 'Cutting the stream').
+// The search for the next telegram over a lent slice (rules C7, C9).
 ghost use mathlib.Core.Path.{_≡_};
 ghost use Prim.Native.Nat.{_≤_};
 ghost use lib.ListN.{length};

@@ -1,4 +1,4 @@
--- A gatherer as a block (01 'Cutting the stream'; 'Numbered answers', 15). Assumes nothing.
+-- A gatherer as a block (rules F7, F8). Assumes nothing.
 use mathlib.Core.Path.{_≡_}
 use mathlib.Core.Bool.{Bool, not, cond}
 use mathlib.Core.List.{List, _∷_}

@@ -1,4 +1,4 @@
--- A state as a block (01 'Numbered answers', 15), and what is proved of each. Assumes nothing.
+-- A state as a block (rules F7, F8), and what is proved of each. Assumes nothing.
 use mathlib.Core.Path.{_≡_}
 use mathlib.Core.Bool.{Bool, true, false, cond}
 use mathlib.Core.List.{List}

@@ -1,4 +1,4 @@
-// A gatherer as a block: the number of bytes gathered, and the bytes (01 'Cutting the stream'; 'Numbered answers', 15).
+// A gatherer as a block: the number of bytes gathered, and the bytes (rules F7, F8).
 ghost use mathlib.Core.Path.{_≡_};
 ghost use Prim.Native.Nat.{_+_, _<_};
 ghost use lib.ListN.{length};

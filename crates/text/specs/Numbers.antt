@@ -1,4 +1,4 @@
--- Numbers in decimal (01 'Bench cases'; docs/SCENES.md). Assumes nothing.
+-- Numbers in decimal (rule P9; docs/SCENES.md). Assumes nothing.
 use mathlib.Core.Path.{_≡_}
 use mathlib.Core.Bool.{true, cond}
 use mathlib.Core.List.{List}

@@ -1,4 +1,4 @@
--- What one byte does to the telegram that is being gathered (01 'Cutting the stream'). Assumes nothing.
+-- What one byte does to the telegram that is being gathered (rules C2 to C6). Assumes nothing.
 use Prim.Native.Nat.{ℕ}
 use mathlib.Core.Path.{_≡_}
 use mathlib.Core.Bool.{Bool, true, false}

@@ -1,2 +1,2 @@
-// What one heard byte does to a telegram being gathered (01 'Cutting the stream').
+// What one heard byte does to a telegram being gathered (rules C2 to C6).
 pub mod turns;

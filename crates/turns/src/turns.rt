@@ -1,4 +1,4 @@
-// What one byte does to the telegram that is being gathered (01 'Cutting the stream'): the step's one rule, and that of the search's definition.
+// What one byte does to the telegram that is being gathered (rules C2 to C6): the step's one rule, and that of the search's definition.
 ghost use mathlib.Core.Path.{_≡_};
 ghost use Rattle.turns.specs.Turns.{turnOf};
 use characters::marks::CR;

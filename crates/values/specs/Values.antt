@@ -1,4 +1,4 @@
--- A value's number and its characters, and what is permitted (01 'Telegram forms', 'Values'). Assumes nothing.
+-- A value's number and its characters, and what is permitted (rules V18, R11, R13). Assumes nothing.
 use Prim.Native.Nat.{ℕ, zero, suc, _+_, _-_}
 use mathlib.Core.Bool.{Bool, true, cond}
 use mathlib.Core.List.{List, [], _∷_}

@@ -1,4 +1,4 @@
-// A packet's value as a number and as characters, and whether a record is permitted (01 'Telegram forms', 'Values').
+// A packet's value as a number and as characters, and whether a record is permitted (rules V18, R11, R13).
 ghost use mathlib.Core.Path.{_≡_};
 ghost use Prim.Native.Nat.{_≤_};
 ghost use lib.ListN.{length};

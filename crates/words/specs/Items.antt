@@ -1,4 +1,4 @@
--- Refusals and records as rows write them (01 'Bench cases'; docs/SCENES.md). Assumes nothing.
+-- Refusals and records as rows write them (rule P9; docs/SCENES.md). Assumes nothing.
 use mathlib.Core.List.{List, [], _∷_, _++_}
 use Prim.Native.Char.{code}
 use Prim.Native.Nat.{ℕ, zero, suc}

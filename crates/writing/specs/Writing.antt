@@ -1,4 +1,4 @@
--- What writing a record on a line does (01 'Numbered answers'). Assumes nothing.
+-- What writing a record on a line does (rules W4 to W6). Assumes nothing.
 use Prim.Native.Nat.{ℕ}
 use mathlib.Core.Bool.{cond}
 use mathlib.Core.List.{List, _++_}

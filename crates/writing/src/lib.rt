@@ -1,3 +1,3 @@
-// Writing telegrams, and sending them (01 'The telegram', 'Telegram forms', 'Numbered answers').
+// Writing telegrams, and sending them (rules W4 to W8).
 pub mod sending;
 pub mod writing;

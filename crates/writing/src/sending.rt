@@ -1,4 +1,4 @@
-// Sending (01 'Numbered answers'): what both ends do with a record that they may send.
+// Sending (rules W6, E6): what both ends do with a record that they may send.
 ghost use mathlib.Core.Path.{_≡_};
 ghost use Rattle.writing.specs.Writing.{sendOf};
 use crate::writing::write;

@@ -1,4 +1,4 @@
-// Writing a record's telegram (01 'Numbered answers'): 15, 12, 13, 14, then each packet into its own stretch of the output.
+// Writing a record's telegram (rules W4 to W6): 15, 12, 13, 14, then each packet into its own stretch of the output.
 ghost use mathlib.Core.Path.{_≡_};
 ghost use mathlib.Core.List.{_++_};
 ghost use Prim.Native.Nat.{_+_, _-_, _≤_, _<_};

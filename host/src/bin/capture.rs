@@ -1,5 +1,5 @@
 //! `capture LINE MIB SEED quiet|busy` writes a capture of MIB mebibytes, the line digit included, to
-//! standard output; the listing program of document 01 is timed with it. A quiet capture has mostly
+//! standard output; the listing program is timed with it. A quiet capture has mostly
 //! bytes outside telegrams, a busy one telegram after telegram.
 
 use host::arguments::{arguments, stop};

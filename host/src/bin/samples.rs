@@ -1,5 +1,5 @@
 //! `samples FOLDER` writes captures of the kind that a help desk gets into a folder: line1.cap,
-//! line2.cap, line3.cap and noise.cap. Each begins with the line digit of document 01's listing.
+//! line2.cap, line3.cap and noise.cap. Each begins with the line digit of the listing (rule P1).
 
 use host::arguments::{arguments, stop};
 use host::exchange::exchange;

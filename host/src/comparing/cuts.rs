@@ -1,4 +1,4 @@
-//! Streams cut by both, item by item and by search: document 01, 'Cutting the stream'.
+//! Streams cut by both, item by item and by search: rules C1 to C8.
 
 use super::{inputs, Lent, Pair};
 use crate::blocks::GATHERER;

@@ -1,5 +1,5 @@
 //! Sequences of calls of desk and master by both, mostly of exchanges that fit together, with
-//! lost and damaged frames, short rooms, damaged states and clocks that jump: document 01, 'Link rules'.
+//! lost and damaged frames, short rooms, damaged states and clocks that jump: rules E1 to E12, K1 to K5, M1 to M17, D1 to D16.
 
 use super::{inputs, Lent, Pair};
 use crate::blocks::{DESK, MASTER, RECORD};

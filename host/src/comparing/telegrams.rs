@@ -1,4 +1,4 @@
-//! Frames read and records written by both: document 01, 'Telegram forms', 'Numbered answers'.
+//! Frames read and records written by both: rules R1 to R15, W1 to W8.
 
 use super::{inputs, Pair};
 use crate::blocks::{record_block, RECORD};

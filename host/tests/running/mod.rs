@@ -1,5 +1,5 @@
 //! Runs the built listing program on inputs and compares what it prints, byte for byte, with
-//! the independent listing: document 01, end of 'Bench cases'.
+//! the independent listing: rules P1 to P5.
 
 // Each test file uses a part of this module.
 #![allow(dead_code)]
@@ -12,7 +12,7 @@ use std::path::{Path, PathBuf};
 use std::process::{ChildStdin, Stdio};
 use std::time::Duration;
 
-/// Document 01's sample: digit 3 and the telegrams of cases a and i.
+/// The sample of rule P4: digit 3 and the telegrams of cases a and i.
 pub const SAMPLE: &[u8] = b"3\n08A0AAA5\r\n08A0AAA6\r";
 
 /// The program's path: the environment variable LISTING, else ../target/bin/listing; a relative

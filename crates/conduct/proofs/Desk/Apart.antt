@@ -1,4 +1,4 @@
--- The paper's numbers and values tell the desk's answers apart (01 'What the promises say'). Assumes nothing.
+-- The paper's numbers and values tell the desk's answers apart (rule G3). Assumes nothing.
 use mathlib.Core.Path.{_≡_, refl, sym, ap, _∙_}
 use Rattle.replying.specs.Replying.{Origin, requested, queue, key, panel, contents, notMaster, nothingSet, originOf}
 use Rattle.replying.specs.declared.replying.Source as s

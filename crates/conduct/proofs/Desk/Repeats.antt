@@ -1,4 +1,4 @@
--- A repeat gives the stored bytes unchanged, handles nothing and takes nothing from the queue (01 'Link rules', 'Desk'). Assumes nothing.
+-- A repeat gives the stored bytes unchanged, handles nothing and takes nothing from the queue (rule D7). Assumes nothing.
 use mathlib.Core.Path.{_≡_, refl, sym, ap, _∙_}
 use mathlib.Core.Bool.{Bool, true, false, cond}
 use mathlib.Core.List.{List}

@@ -1,4 +1,4 @@
--- Calls of the desk in any order, with any inputs, and what each can do in its ranges (01 'Link rules', 'Desk'). Assumes nothing.
+-- Calls of the desk in any order, with any inputs, and what each can do in its ranges (rules D2 to D8). Assumes nothing.
 use mathlib.Core.Path.{_≡_, refl, ap, _∙_}
 use mathlib.Core.Bool.{Bool, true, false, cond}
 use mathlib.Core.List.{List}

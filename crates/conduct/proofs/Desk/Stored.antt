@@ -1,4 +1,4 @@
--- From the start, under any calls, a stored answer is the telegram of a permitted record that the slave sends on the line, with the last number taken (01 'Link rules', 'Desk'). Assumes nothing.
+-- From the start, under any calls, a stored answer is the telegram of a permitted record that the slave sends on the line, with the last number taken (rules D8, D14). Assumes nothing.
 use mathlib.Core.Path.{_≡_, refl, ap, _∙_}
 use mathlib.Core.Bool.{Bool, true, false}
 use mathlib.Core.List.{List, [], _∷_, _++_}

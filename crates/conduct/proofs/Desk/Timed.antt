@@ -1,4 +1,4 @@
--- T1 at its limit, in every state and at every reading of the clock (01 'Link rules', 'Bench cases'). Assumes nothing.
+-- T1 at its limit, in every state and at every reading of the clock (rules D4, K4). Assumes nothing.
 use mathlib.Core.Path.{_≡_, refl, sym, _∙_}
 use mathlib.Core.Bool.{true, false}
 use Prim.Native.Nat.{ℕ, _^_, _≤_, _<_}

@@ -1,4 +1,4 @@
--- The paper's numbers and values tell the master's answers apart (01 'What the promises say'). Assumes nothing.
+-- The paper's numbers and values tell the master's answers apart (rule G3). Assumes nothing.
 use mathlib.Core.Path.{_≡_, refl, sym, ap, _∙_}
 use Rattle.reading.specs.Answers.{Answer, accepted, answerOf}
 use Rattle.reading.specs.Answers as w

@@ -1,4 +1,4 @@
--- Calls of the master in any order, with any inputs, and what each can do in its ranges (01 'Link rules'). Assumes nothing.
+-- Calls of the master in any order, with any inputs, and what each can do in its ranges (rules M2 to M13). Assumes nothing.
 use mathlib.Core.Path.{_≡_, refl, sym, ap, _∙_}
 use mathlib.Core.Bool.{Bool, true, false, cond}
 use mathlib.Core.List.{List}

@@ -1,4 +1,4 @@
--- What a frame does that the master hears before T2 has run out (01 'Link rules', 'Master'). Assumes nothing.
+-- What a frame does that the master hears before T2 has run out (rules M8 to M14). Assumes nothing.
 use mathlib.Core.Path.{_≡_, refl, sym, _∙_}
 use mathlib.Core.Bool.{true}
 use mathlib.Core.List.{List}

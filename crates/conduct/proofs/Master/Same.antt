@@ -1,4 +1,4 @@
--- A sending is the telegram of the offered record, or of the poll, with the number to send, and the same bytes each time until it ends (01 'Link rules'). Assumes nothing.
+-- A sending is the telegram of the offered record, or of the poll, with the number to send, and the same bytes each time until it ends (rules M17, E6). Assumes nothing.
 use mathlib.Core.Path.{_≡_, refl, sym, _∙_}
 use mathlib.Core.Bool.{true, false}
 use mathlib.Core.List.{List, [], _∷_}

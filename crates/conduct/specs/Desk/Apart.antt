@@ -1,4 +1,4 @@
--- The paper's numbers and values tell the desk's answers apart, so that a promise through them allows one answer only (01 'What the promises say'). Assumes nothing.
+-- The paper's numbers and values tell the desk's answers apart, so that a promise through them allows one answer only (rule G3). Assumes nothing.
 use mathlib.Core.Path.{_≡_}
 use Rattle.desk.specs.Answers.{doneOf}
 use Rattle.deskhearing.specs.Answers.{toldOf}

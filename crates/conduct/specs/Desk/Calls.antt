@@ -1,4 +1,4 @@
--- Calls of the desk in any order, with any inputs (01 'Link rules', 'Desk'). Assumes nothing.
+-- Calls of the desk in any order, with any inputs (rules D2 to D8). Assumes nothing.
 use mathlib.Core.Path.{_≡_}
 use mathlib.Core.Bool.{true}
 use mathlib.Core.List.{List, [], _∷_}

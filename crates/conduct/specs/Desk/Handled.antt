@@ -1,4 +1,4 @@
--- What answers a good frame that is no repeat, row by row, and which answers are N with A (01 'Link rules', 'Desk'). Assumes nothing.
+-- What answers a good frame that is no repeat, row by row, and which answers are N with A (rules D8 to D13). Assumes nothing.
 use mathlib.Core.Path.{_≡_}
 use mathlib.Core.Bool.{Bool, true, false}
 use mathlib.Core.List.{List}

@@ -1,4 +1,4 @@
--- A handled t takes exactly the oldest queued record, and no other hearing takes one (01 'Link rules', 'Desk'). Assumes nothing.
+-- A handled t takes exactly the oldest queued record, and no other hearing takes one (rules D11, D13). Assumes nothing.
 use mathlib.Core.Path.{_≡_}
 use mathlib.Core.Bool.{Bool, true, false}
 use mathlib.Core.List.{List, [], _∷_, _++_, map}

@@ -1,5 +1,5 @@
 -- Under 28,000 milliseconds after T1's start the line stays good, from there on it is lost: in every state and at every reading of the
--- clock (01 'Link rules', 'Bench cases'). Assumes nothing.
+-- clock (rules D4, K4). Assumes nothing.
 use mathlib.Core.Path.{_≡_}
 use mathlib.Core.Bool.{true, false}
 use mathlib.Core.List.{List}

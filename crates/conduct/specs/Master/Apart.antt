@@ -1,5 +1,5 @@
 -- The paper's numbers and values tell the master's answers apart, so that a promise through them allows one answer only
--- (01 'What the promises say'). Assumes nothing.
+-- (rule G3). Assumes nothing.
 use mathlib.Core.Path.{_≡_}
 use Rattle.master.specs.Answers.{toldOf}
 use Rattle.master.specs.declared.answers.Answer.{Answer}

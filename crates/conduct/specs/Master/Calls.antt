@@ -1,4 +1,4 @@
--- Calls of the master in any order, with any inputs (01 'Link rules'). Assumes nothing.
+-- Calls of the master in any order, with any inputs (rules M2 to M13). Assumes nothing.
 use mathlib.Core.Bool.{Bool, true, false}
 use mathlib.Core.List.{List, [], _∷_}
 use Prim.Native.Nat.{ℕ}

@@ -1,4 +1,4 @@
--- How a telegram ends: given up, or by an answer of another kind (01 'Link rules', 'Readings that look right'). Assumes nothing.
+-- How a telegram ends: given up, or by an answer of another kind (rules M13, M15). Assumes nothing.
 use mathlib.Core.Path.{_≡_}
 use mathlib.Core.Bool.{Bool, true}
 use Prim.Native.Nat.{ℕ}

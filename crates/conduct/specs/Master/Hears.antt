@@ -1,5 +1,5 @@
 -- What a frame does that the master hears before T2 has run out, in every state that is not free and at every reading of the clock
--- (01 'Link rules', 'Master'). Assumes nothing.
+-- (rules M8 to M14). Assumes nothing.
 use mathlib.Core.Path.{_≡_}
 use mathlib.Core.Bool.{true, false}
 use mathlib.Core.List.{List}

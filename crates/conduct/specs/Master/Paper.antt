@@ -1,4 +1,4 @@
--- The master's poll and the permitted answers are those of the paper, row by row (01 'Link rules', 'Master'; 'The three lines and both ends').
+-- The master's poll and the permitted answers are those of the paper, row by row (rules M7, M12).
 -- Assumes nothing.
 use mathlib.Core.Path.{_≡_}
 use mathlib.Core.Bool.{Bool, true, false, cond}

@@ -1,5 +1,5 @@
 -- A sending is the telegram of the offered record, or of the poll, with the number to send, and the same bytes each time until it ends
--- (01 'Link rules'). Assumes nothing.
+-- (rules M17, E6). Assumes nothing.
 use mathlib.Core.Path.{_≡_}
 use mathlib.Core.Bool.{true}
 use mathlib.Core.List.{List, [], _∷_}

@@ -1,4 +1,4 @@
--- T0 and T2 at their limits, in every state in its ranges and at every reading of the clock (01 'Link rules', 'Bench cases'). Assumes nothing.
+-- T0 and T2 at their limits, in every state in its ranges and at every reading of the clock (rules M5 to M8, K4). Assumes nothing.
 use mathlib.Core.Path.{_≡_}
 use mathlib.Core.Bool.{true, false}
 use mathlib.Core.List.{List}
