@@ -46,6 +46,7 @@ fn the_programs_of_the_host() {
 fn the_proved_programs() {
     for (name, usage) in [
         ("listing", "listing < CAPTURE"),
+        ("scenes", "scenes < SCRIPT"),
         ("cases", "cases < ROWS"),
         ("damage", "damage"),
     ] {

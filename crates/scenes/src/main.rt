@@ -15,8 +15,13 @@
 mod ends;
 mod script;
 
+use stdio::input::called_alone;
+
 // What a row prints has room: it is said again, 1,024 bytes and LF, and an answer has under 1,500.
 fn main() {
+    if !called_alone(b"usage: scenes < SCRIPT\n") {
+        return;
+    }
     let mut buf = [0u8; 65536];
     let mut row = [0u8; 1024];
     let mut out = [0u8; 4096];
