@@ -44,7 +44,8 @@ returns-9 : tie.Need-returns-9
 unfolding callNumbered
 returns-9 c =
     let m = c .match .rest in
-    rw (ne-eqb _ _ (m .0 .0 .0 .0 .0 .0 .0 .1), ne-eqb _ _ (m .0 .0 .0 .0 .0 .0 .1), ne-eqb _ _ (m .0 .0 .0 .0 .0 .1), ne-eqb _ _ (m .0 .0 .0 .0 .1), ne-eqb _ _ (m .0 .0 .0 .1), ne-eqb _ _ (m .0 .0 .1), ne-eqb _ _ (m .0 .1), ne-eqb _ _ (m .1))
+    let f = m .0 .0 .0 .0 in
+    rw (ne-eqb _ _ (f .0 .0 .0 .1), ne-eqb _ _ (f .0 .0 .1), ne-eqb _ _ (f .0 .1), ne-eqb _ _ (f .1), ne-eqb _ _ (m .0 .0 .0 .1), ne-eqb _ _ (m .0 .0 .1), ne-eqb _ _ (m .0 .1), ne-eqb _ _ (m .1))
 
 pub call-numbered-spec : {M : Type 1} → statement M
 call-numbered-spec =
