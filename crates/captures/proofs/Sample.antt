@@ -11,17 +11,17 @@ use Rattle.laws.specs.Numerals.{numeralOn, numberOn}
 use Rattle.characters.specs.Characters.{inSet}
 use Rattle.characters.specs.Checksum.{total, checksumOf, checkText}
 use Rattle.forms.specs.Forms.{forms, onLine, lookIn, formOf, typeRow, dataType, slotsIn, countOf, slotsOf, widthIn, widthOf}
-use Rattle.forms.specs.Lines.{isLine, lineOf}
+use Rattle.lines.specs.Lines.{isLine, lineOf}
 use Rattle.records.specs.Records.{recordOf}
 use Rattle.packets.specs.Packets.{leadOf, isDecimal, permits, ruled, permitsNumber}
 use Rattle.values.specs.Values.{narrow, numberFits, valueOf, permittedFrom, permitted}
-use Rattle.reading.specs.Frame.{countText, summedOf, fieldOf, frameChecks}
+use Rattle.framing.specs.Frame.{countText, summedOf, fieldOf, frameChecks}
 use Rattle.reading.specs.Field.{outside, wrongLetter, badValue, valuesIn, misshapen, fieldChecks}
 use Rattle.reading.specs.Reading.{recordIn, checks, readingOf}
 use Rattle.turns.specs.Turns.{turnOf}
 use Rattle.searching.specs.Search.{cutFrom, spanOf}
 use Rattle.text.specs.Numbers.{countOn, digitCount, decimalText}
-use Rattle.words.specs.Items.{refusalText}
+use Rattle.items.specs.Items.{refusalText}
 use Rattle.listings.specs.Lines.{lineText}
 use Rattle.captures.specs.Sample.{PaperListing, NoInput, OtherByte, DigitAlone}
 use Rattle.pieces.specs.Pieces.{spansOn, spansOf, lineAt, linesIn, linesOf}

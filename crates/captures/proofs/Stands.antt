@@ -12,8 +12,9 @@ use borrow.Author.Tests.{le-leb, eqb-true, eqb-false, ne-eqb}
 use Rattle.laws.proofs.Truths.{clash}
 use Rattle.laws.proofs.Passes.{on-test, from-bounds}
 use Rattle.characters.specs.Marks.{unfinished}
-use Rattle.forms.specs.Lines.{isLine}
-use Rattle.reading.specs.Answers.{good, written}
+use Rattle.lines.specs.Lines.{isLine}
+use Rattle.framing.specs.Answers.{good}
+use Rattle.reading.specs.Answers.{written}
 use Rattle.text.specs.Putting.{puts, placed}
 use Rattle.text.proofs.Puts.{with-room}
 use Rattle.listings.specs.Lines.{lineRoom}

@@ -4,7 +4,7 @@ use mathlib.Core.Bool.{cond}
 use mathlib.Core.List.{List, [], _∷_, _++_}
 use Rattle.laws.specs.Text.{codes}
 use Rattle.characters.specs.Marks.{lf}
-use Rattle.forms.specs.Lines.{isLine}
+use Rattle.lines.specs.Lines.{isLine}
 use Rattle.pieces.specs.Pieces.{linesOf}
 use Rattle.lister.specs.Lister.{lineNamed}
 

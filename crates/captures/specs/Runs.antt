@@ -4,7 +4,8 @@ use mathlib.Core.List.{List, [], _∷_, _++_}
 use Prim.Native.Nat.{ℕ, _≤_, _<_}
 use lib.ListN.{length, take}
 use Rattle.characters.specs.Marks.{longest, unfinished}
-use Rattle.reading.specs.Answers.{good, Outcome, written, refused}
+use Rattle.framing.specs.Answers.{good}
+use Rattle.reading.specs.Answers.{Outcome, written, refused}
 use Rattle.listings.specs.Lines.{lineRoom}
 use Rattle.lister.specs.declared.state.Lister.{Lister}
 use Rattle.lister.specs.declared.state.Wants.the-variants.{Read, Again, End}

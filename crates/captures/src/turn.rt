@@ -5,13 +5,13 @@ ghost use Rattle.captures.specs.Captures.{badLine};
 ghost use Rattle.captures.specs.Turn.{unnamed, carriedOn, listOf};
 use characters::slices::less;
 use characters::slices::part;
+use framing::answers::Check;
 use lister::state::Lister;
 use lister::state::Task;
 use lister::state::Wants;
 use pieces::pieces::keep_tail;
 use pieces::pieces::kept_from;
 use pieces::pieces::list_part;
-use reading::answers::Check;
 use reading::answers::Writing;
 use text::putting::put_text;
 

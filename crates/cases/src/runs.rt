@@ -4,23 +4,23 @@
 use characters::checksum::checksum;
 use characters::slices::byte_at;
 use characters::slices::part;
+use frametexts::frames::put_meant;
+use frametexts::frames::put_shown;
+use frametexts::hex::put_hex;
+use items::items::put_refusal;
+use items::items::put_values;
+use items::items::word_values;
 use reading::answers::Reading;
 use reading::answers::Writing;
 use reading::reading::read;
 use records::records::Record;
 use records::records::record_of;
 use records::records::type_of;
-use text::frames::put_meant;
-use text::frames::put_shown;
-use text::hex::put_hex;
 use text::numbers::number;
 use text::numbers::put_number;
 use text::putting::put_byte;
 use text::putting::put_text;
 use words::fields::field;
-use words::items::put_refusal;
-use words::items::put_values;
-use words::items::word_values;
 use writing::writing::write;
 
 pub(crate) fn kind(row: &[u8]) -> u8 {

@@ -4,7 +4,7 @@ use mathlib.Core.Bool.{true, false}
 use mathlib.Core.List.{List}
 use Prim.Native.Nat.{ℕ}
 use Rattle.records.specs.Refusals.{no}
-use Rattle.forms.specs.Lines.{isLine}
+use Rattle.lines.specs.Lines.{isLine}
 use Rattle.reading.specs.declared.answers.Reading.{Reading}
 use Rattle.reading.specs.Answers.{answerOf}
 use Rattle.reading.specs.Reading.{readingOf}

@@ -4,7 +4,7 @@ use mathlib.Core.Path.{_≡_}
 use mathlib.Core.Bool.{cond}
 use mathlib.Core.List.{List}
 use Rattle.records.specs.Refusals.{No, no, refusalOf}
-use Rattle.forms.specs.Lines.{isLine}
+use Rattle.lines.specs.Lines.{isLine}
 use Rattle.reading.specs.Answers.{Answer, answerOf}
 use Rattle.reading.specs.Reading.{readingOf}
 use Rattle.searching.specs.declared.search.Span.{Span}

@@ -1,7 +1,7 @@
 // The next telegram of a lent slice, cut and then read (rule C9).
 ghost use mathlib.Core.Path.{_≡_};
 ghost use Rattle.cutting.specs.Cutting.{cuttingOf, nextOf};
-use forms::lines::is_line;
+use lines::lines::is_line;
 use reading::answers::Reading;
 use reading::reading::read;
 use records::refusals::Refusal;

@@ -12,14 +12,15 @@ use Rattle.laws.specs.Truth.{from}
 use Rattle.laws.specs.Text.{codes}
 use Rattle.laws.proofs.Truths.{clash}
 use Rattle.laws.proofs.Passes.{on-test, oneOf-passes, from-bounds}
-use Rattle.forms.specs.Lines.{isLine}
+use Rattle.lines.specs.Lines.{isLine}
 use Rattle.records.specs.declared.records.Record.{Record}
-use Rattle.reading.specs.Answers.{Answer, accepted, refused, Fault, good, fails, firstFault, unless}
-use Rattle.reading.specs.Frame.{frameChecks}
+use Rattle.framing.specs.Answers.{Fault, good, fails, firstFault}
+use Rattle.reading.specs.Answers.{Answer, accepted, refused, unless}
+use Rattle.framing.specs.Frame.{frameChecks}
 use Rattle.reading.specs.Field.{fieldChecks}
 use Rattle.reading.specs.Reading.{recordIn, checks, readingOf}
-use Rattle.reading.specs.declared.answers.Spot.{Spot}
-use Rattle.reading.specs.declared.answers.Spot.the-variants.{Nowhere, At}
+use Rattle.framing.specs.declared.answers.Spot.{Spot}
+use Rattle.framing.specs.declared.answers.Spot.the-variants.{Nowhere, At}
 use Rattle.roundtrips.proofs.Faults.{good-faultless}
 use Rattle.roundtrips.proofs.Frames.{faultless-framed}
 use Rattle.roundtrips.proofs.Trips.{read-permitted}

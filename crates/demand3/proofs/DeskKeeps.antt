@@ -9,13 +9,13 @@ use lib.ListN.{length, take, drop, replicate}
 use lib.Seq.{take-append-seam}
 use borrow.Author.Tests.{ltb-true}
 use Rattle.laws.proofs.Truths.{clash, both-left}
-use Rattle.forms.specs.Lines.{isLine}
+use Rattle.lines.specs.Lines.{isLine}
 use Rattle.forms.specs.Forms.{bySlave}
 use Rattle.records.specs.Records.{typeOf}
 use Rattle.records.specs.declared.records.Record.{Record}
 use Rattle.records.specs.declared.records.Record.the-variants.{Rejected}
 use Rattle.values.specs.Values.{permitsRecord}
-use Rattle.reading.specs.Answers.{Fault, good, fails}
+use Rattle.framing.specs.Answers.{Fault, good, fails}
 use Rattle.writing.specs.Writing.{telegramOf, sentOf}
 use Rattle.roundtrips.proofs.Trips.{written-reads}
 use Rattle.characters.specs.Marks.{longest}
@@ -27,7 +27,7 @@ use Rattle.conduct.proofs.Master.Calls.{rejects}
 use Rattle.desk.specs.Answers.{Done, done, lost}
 use Rattle.desk.specs.State.{inRanges, storedOf, startOf}
 use Rattle.desk.specs.Panel.{losesLine, notedOf, faultless, recordFault, keyFault, withQueued, tickOf, queueOf, setOf, keyOf}
-use Rattle.deskhearing.specs.Queue.{replyTo}
+use Rattle.deskqueue.specs.Queue.{replyTo}
 use Rattle.deskhearing.specs.Hearing.{Hearing, faultedOf, repeatedOf, handledOf, appliedOf, ruling, heardOf, hearOf}
 use Rattle.desk.specs.declared.state.Desk.{Desk}
 use Rattle.deskhearing.proofs.Permitted.{answer-permitted}

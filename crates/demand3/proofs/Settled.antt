@@ -14,7 +14,7 @@ use Rattle.records.specs.declared.records.Record.{Record}
 use Rattle.records.specs.Refusals.{No}
 use Rattle.reading.specs.Answers.{Answer, accepted}
 use Rattle.reading.specs.Answers as w
-use Rattle.reading.specs.Frame.{frameChecks}
+use Rattle.framing.specs.Frame.{frameChecks}
 use Rattle.reading.specs.Reading.{readingOf}
 use Rattle.roundtrips.proofs.Faults.{faultless-good}
 use Rattle.roundtrips.proofs.Frames.{framed-faultless}

@@ -7,8 +7,9 @@ use lib.ListN.{take}
 use Rattle.forms.specs.Forms.{byMaster, bySlave}
 use Rattle.records.specs.Records.{typeOf}
 use Rattle.records.specs.declared.records.Record.{Record}
-use Rattle.reading.specs.Answers.{Fault, good, fails, firstFault, accepted}
-use Rattle.reading.specs.Frame.{frameChecks}
+use Rattle.framing.specs.Answers.{Fault, good, fails, firstFault}
+use Rattle.reading.specs.Answers.{accepted}
+use Rattle.framing.specs.Frame.{frameChecks}
 use Rattle.reading.specs.Reading.{readingOf}
 use Rattle.master.specs.Answers.{Told, refused, nothing, sent, answered, otherKind, givenUp, ignored}
 use Rattle.master.specs.Sending.{Behind, offerOf, tickOf}

@@ -9,7 +9,7 @@ use borrow.Author.Tests.{le-leb, lt-leb, leb-true, eqb-true}
 use Rattle.laws.specs.Truth.{from, every}
 use Rattle.laws.proofs.Truths.{both-left, both-right, both-true}
 use Rattle.laws.proofs.Passes.{both-off, on-test, on-cond, from-bounds}
-use Rattle.forms.specs.Lines.{isLine}
+use Rattle.lines.specs.Lines.{isLine}
 use Rattle.clock.specs.Counters.{inRange}
 use Rattle.characters.specs.Marks.{shortest, longest}
 use Rattle.desk.specs.declared.state.Desk.{Desk}

@@ -10,9 +10,9 @@ use Rattle.records.specs.Records.{typeOf}
 use Rattle.records.specs.declared.records.Record.{Record}
 use Rattle.values.specs.Values.{permitsRecord}
 use Rattle.clock.specs.Clock.{runOut}
-use Rattle.reading.specs.Answers.{Fault, good, fails}
+use Rattle.framing.specs.Answers.{Fault, good, fails}
 use Rattle.records.specs.Refusals.{no}
-use Rattle.forms.specs.Lines.{lineOf, isKey}
+use Rattle.lines.specs.Lines.{lineOf, isKey}
 use Rattle.replying.specs.declared.replying.Wanted.the-variants.{Is}
 use Rattle.desk.specs.Answers.{Done, done, lost, refused}
 use Rattle.desk.specs.State.{inRanges}

@@ -6,7 +6,7 @@ use mathlib.Core.Bool.{Bool, false, cond}
 use lib.Dec.{leb}
 use lib.ListN.{take, replicate}
 use Rattle.laws.specs.Truth.{both, every}
-use Rattle.forms.specs.Lines.{isLine}
+use Rattle.lines.specs.Lines.{isLine}
 use Rattle.clock.specs.Counters.{inRange}
 use Rattle.characters.specs.Marks.{longest}
 use Rattle.records.specs.Refusals.{no}

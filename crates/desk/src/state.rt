@@ -5,7 +5,7 @@ ghost use Rattle.desk.specs.State.{numbersFit, recordsFit, inRanges, fre
 use crate::answers::Outcome;
 use characters::marks::LONGEST;
 use clock::counters::LastTaken;
-use forms::lines::is_line;
+use lines::lines::is_line;
 use records::records::Record;
 use records::refusals::Refusal;
 use replying::fitting::key_fits;

@@ -12,7 +12,7 @@ use Rattle.deciding.specs.Deciding.{What}
 use Rattle.replying.specs.Fitting.{mayReply}
 use Rattle.replying.proofs.Permitted.{reply-permitted}
 use Rattle.replying.specs.Waiting.{blank, waitingFits}
-use Rattle.deskhearing.specs.Queue.{oldest, replyTo}
+use Rattle.deskqueue.specs.Queue.{oldest, replyTo}
 use Rattle.replying.specs.declared.waiting.Waiting.{Waiting}
 use Rattle.desk.specs.declared.state.Desk.{Desk}
 use Rattle.desk.proofs.Ranges.{Fits}

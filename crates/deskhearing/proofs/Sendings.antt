@@ -20,7 +20,7 @@ use Rattle.replying.specs.Replying.{Origin, Reply}
 use Rattle.desk.specs.State.{inRanges, storedOf}
 use Rattle.desk.specs.Panel.{losesLine, notedOf}
 use Rattle.deskhearing.specs.Answers.{Told, toldOf, fault, repeat, handled}
-use Rattle.deskhearing.specs.Queue.{replyTo, takenBy}
+use Rattle.deskqueue.specs.Queue.{replyTo, takenBy}
 use Rattle.deskhearing.specs.Hearing.{Hearing, withStored, marked, restarted, faultedOf, repeatedOf, handledOf, appliedOf, ruling, heardOf, hearOf}
 use Rattle.deskhearing.specs.declared.applying.Hearing.{Hearing as Step}
 use Rattle.desk.specs.declared.state.Desk.{Desk}

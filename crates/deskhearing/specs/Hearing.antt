@@ -1,7 +1,7 @@
 -- What the desk makes of a frame that it hears (rules E1, E4, D4 to D8). Assumes nothing.
 use Prim.Native.Nat.{ℕ}
 use Prim.Native.Char.{code}
-use mathlib.Core.Bool.{Bool, true, cond}
+use mathlib.Core.Bool.{Bool, cond}
 use mathlib.Core.List.{List, _++_}
 use lib.Dec.{leb}
 use lib.ListN.{length, drop, replicate}
@@ -15,32 +15,13 @@ use Rattle.replying.specs.Replying.{Reply}
 use Rattle.deskhearing.specs.Answers.{Told, refused, silent, fault, repeat, handled}
 use Rattle.desk.specs.State.{inRanges, storedOf}
 use Rattle.desk.specs.Panel.{losesLine, notedOf}
-use Rattle.deskhearing.specs.Queue.{replyTo, takenBy}
+use Rattle.deskqueue.specs.Queue.{replyTo, takenBy}
+pub use Rattle.deskqueue.specs.Queue.{marked, restarted}
 use Rattle.desk.specs.declared.state.Desk.{Desk}
 
 -- the state, what is told, and the output
 abbrev pub Hearing : Type 0
 Hearing = Desk × Told × List ℕ
-
--- line good, number kept as last taken
-abbrev pub marked : Desk → ℕ → Desk
-marked d number =
-    record {
-      line = d .line;
-      good = true;
-      last = record { 0 = number };
-      t1 = d .t1;
-      kept = d .kept;
-      stored = d .stored;
-      requested = d .requested;
-      queued = d .queued;
-      queue = d .queue;
-      key = d .key;
-    }
-
--- T1 restarts
-abbrev pub restarted : Desk → ℕ → Desk
-restarted d at = record { line = d .line; good = d .good; last = d .last; t1 = at; kept = d .kept; stored = d .stored; requested = d .requested; queued = d .queued; queue = d .queue; key = d .key }
 
 -- the answer is stored, with zeros behind it
 abbrev pub withStored : Desk → List ℕ → Desk

@@ -5,19 +5,17 @@ ghost use Prim.Native.Nat.{_≤_, _<_};
 ghost use lib.ListN.{length};
 ghost use Rattle.characters.specs.Marks.{longest};
 ghost use Rattle.deciding.specs.Deciding.{matterOf, rulingOf, answersWith};
-ghost use Rattle.replying.specs.Replying.{originOf};
 ghost use Rattle.desk.specs.State.{inRanges};
 ghost use Rattle.deskhearing.specs.Answers.{toldOf};
-ghost use Rattle.deskhearing.specs.Queue.{takenBy, replyTo};
-ghost use Rattle.deskhearing.specs.Hearing.{withStored, marked, restarted, faultedOf, repeatedOf, handledOf, appliedOf};
+ghost use Rattle.deskqueue.specs.Queue.{replyTo};
+ghost use Rattle.deskhearing.specs.Hearing.{withStored, faultedOf, repeatedOf, handledOf, appliedOf};
 use crate::answers::Heard;
-use crate::queue::reply;
-use crate::queue::without;
 use characters::marks::LONGEST;
-use clock::counters::LastTaken;
 use deciding::deciding::Matter;
 use deciding::deciding::Rule;
 use desk::state::Desk;
+use deskqueue::queue::mark;
+use deskqueue::queue::reply;
 use records::records::Record;
 use replying::replying::Source;
 use writing::sending::send;
@@ -26,18 +24,6 @@ use writing::sending::send;
 pub struct Hearing {
     pub desk: Desk,
     pub answer: Heard,
-}
-
-// Line good, number kept as last taken, T1 restarts; the oldest record leaves the queue where it answers.
-fn mark(desk: Desk, source: Source, number: u8, at: u32) -> Desk
-    ensures { λ r. ⌜ r ≡ restarted (marked (takenBy desk (originOf source)) number) at ⌝ }
-{
-    let last = LastTaken(number);
-    let mut d = without(desk, source);
-    d.good = true;
-    d.last = last;
-    d.t1 = at;
-    d
 }
 
 // The answer is stored, with zeros behind it.

@@ -2,4 +2,3 @@
 pub mod answers;
 pub mod applying;
 pub mod hearing;
-pub mod queue;

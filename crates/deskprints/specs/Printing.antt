@@ -9,7 +9,7 @@ use Rattle.replying.specs.declared.waiting.Waiting.{Waiting}
 use Rattle.desk.specs.declared.state.Desk.{Desk}
 use Rattle.desk.specs.Answers.{Done}
 use Rattle.deskhearing.specs.Answers.{Told}
-use Rattle.words.specs.Items.{recordText}
+use Rattle.items.specs.Items.{recordText}
 use Rattle.scripts.specs.Printing.{beganText, numberText, lineText, firstText, outputText}
 use Rattle.desktellings.specs.Tellings.{doneText, toldText}
 

@@ -11,6 +11,7 @@ use desk::state::Wanted;
 use deskhearing::answers::Heard;
 use desktellings::tellings::put_heard;
 use desktellings::tellings::put_outcome;
+use items::items::put_record;
 use scripts::printing::begin;
 use scripts::printing::first;
 use scripts::printing::line;
@@ -18,7 +19,6 @@ use scripts::printing::number;
 use scripts::printing::output;
 use text::putting::put_byte;
 use text::putting::put_text;
-use words::items::put_record;
 
 // What every row of the desk ends with: line, last number taken, queued records.
 pub fn put_numbers(out: &mut [u8], at: usize, good: bool, last: u8, queued: usize) -> usize

@@ -11,8 +11,8 @@ use Rattle.desk.specs.Answers.{Done}
 use Rattle.desk.specs.Answers as d
 use Rattle.deskhearing.specs.Answers.{Told}
 use Rattle.deskhearing.specs.Answers as t
-use Rattle.words.specs.Items.{refusalText, recordText}
-use Rattle.words.specs.Amounts.{bytesText}
+use Rattle.items.specs.Items.{refusalText, recordText}
+use Rattle.items.specs.Amounts.{bytesText}
 
 -- a call that hears nothing is done, or notes the line lost, or refuses
 abbrev pub doneText : Done → List ℕ

@@ -8,14 +8,14 @@ ghost use Rattle.text.specs.Putting.{puts};
 ghost use Rattle.desktellings.specs.Tellings.{doneText, keyText, panelText, contentsText, originText, notedText, silentText, faultText, repeatText, handledText, toldText};
 use desk::answers::Outcome;
 use deskhearing::answers::Heard;
+use items::amounts::put_bytes;
+use items::items::put_record;
+use items::items::put_refusal;
 use records::records::Record;
 use records::refusals::Refusal;
 use replying::replying::Source;
 use text::putting::put_byte;
 use text::putting::put_text;
-use words::amounts::put_bytes;
-use words::items::put_record;
-use words::items::put_refusal;
 
 // A call that hears nothing.
 pub fn put_outcome(out: &mut [u8], at: usize, answer: Outcome) -> usize

@@ -7,7 +7,7 @@ use native.Mathlib.Numerals.{add-one}
 use lib.ListN.{length, drop, getD, drop-of-length-le}
 use lib.Seq.{drop-cons}
 use Rattle.forms.specs.Forms.{lookIn, none}
-use Rattle.forms.specs.declared.table.Form.{Form}
+use Rattle.formrows.specs.declared.rows.Form.{Form}
 
 module _ (fs : List Form) (i : ℕ) (d : Form) (test : Form → Bool) (h : i < length fs) where
   pub hit : test (getD fs i d) ≡ true → lookIn (drop i fs) test ≡ record { found = true; form = getD fs i d }

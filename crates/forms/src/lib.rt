@@ -1,3 +1,2 @@
 // The table of lines and the table of forms (rules L1 to L19).
-pub mod lines;
 pub mod table;

@@ -1,138 +1,14 @@
-// The telegram forms (rules L1 to L19), one row each, and what they say of a line.
+// What the telegram forms say of a line (rules L1 to L19).
 ghost use mathlib.Core.Path.{_≡_};
 ghost use Prim.Native.Nat.{_≤_};
-ghost use Rattle.forms.specs.Forms.{forms, onLine, ofType, ofLetter, isData, testOf, lookIn, formOf, byMaster, bySlave, dataType, countOf, widthOf};
-use crate::lines::LINE_COUNT;
-use crate::lines::is_line;
+ghost use Rattle.formrows.specs.Rows.{forms};
+ghost use Rattle.forms.specs.Forms.{onLine, ofType, ofLetter, isData, testOf, lookIn, formOf, byMaster, bySlave, dataType, countOf, widthOf};
 use characters::slices::wide;
-
-// A form: its type, the lines it is on, whether the master sends it (else the slave does), and its packets' letters and value lengths.
-pub struct Form {
-    pub kind: u8,
-    pub lines: [bool; LINE_COUNT],
-    pub master: bool,
-    pub count: u8,
-    pub letters: [u8; 10],
-    pub lens: [u8; 10],
-}
-
-// How many rows the table has.
-pub const ROW_COUNT: usize = 14;
-
-pub const FORMS: [Form; ROW_COUNT] = [
-    Form {
-        kind: b'A',
-        lines: [true, true, true],
-        master: false,
-        count: 1,
-        letters: [b'A', 0, 0, 0, 0, 0, 0, 0, 0, 0],
-        lens: [1, 0, 0, 0, 0, 0, 0, 0, 0, 0],
-    },
-    Form {
-        kind: b'N',
-        lines: [true, true, true],
-        master: false,
-        count: 1,
-        letters: [b'N', 0, 0, 0, 0, 0, 0, 0, 0, 0],
-        lens: [1, 0, 0, 0, 0, 0, 0, 0, 0, 0],
-    },
-    Form {
-        kind: b'r',
-        lines: [true, true, true],
-        master: true,
-        count: 1,
-        letters: [b'B', 0, 0, 0, 0, 0, 0, 0, 0, 0],
-        lens: [1, 0, 0, 0, 0, 0, 0, 0, 0, 0],
-    },
-    Form {
-        kind: b't',
-        lines: [true, true, true],
-        master: true,
-        count: 1,
-        letters: [b'B', 0, 0, 0, 0, 0, 0, 0, 0, 0],
-        lens: [1, 0, 0, 0, 0, 0, 0, 0, 0, 0],
-    },
-    Form {
-        kind: b'c',
-        lines: [true, false, false],
-        master: true,
-        count: 1,
-        letters: [b'm', 0, 0, 0, 0, 0, 0, 0, 0, 0],
-        lens: [1, 0, 0, 0, 0, 0, 0, 0, 0, 0],
-    },
-    Form {
-        kind: b'5',
-        lines: [false, true, false],
-        master: false,
-        count: 1,
-        letters: [b'U', 0, 0, 0, 0, 0, 0, 0, 0, 0],
-        lens: [1, 0, 0, 0, 0, 0, 0, 0, 0, 0],
-    },
-    Form {
-        kind: b'o',
-        lines: [false, false, true],
-        master: true,
-        count: 1,
-        letters: [b'S', 0, 0, 0, 0, 0, 0, 0, 0, 0],
-        lens: [2, 0, 0, 0, 0, 0, 0, 0, 0, 0],
-    },
-    Form {
-        kind: b'G',
-        lines: [true, false, false],
-        master: true,
-        count: 1,
-        letters: [b'E', 0, 0, 0, 0, 0, 0, 0, 0, 0],
-        lens: [3, 0, 0, 0, 0, 0, 0, 0, 0, 0],
-    },
-    Form {
-        kind: b'F',
-        lines: [true, true, false],
-        master: true,
-        count: 1,
-        letters: [b'P', 0, 0, 0, 0, 0, 0, 0, 0, 0],
-        lens: [4, 0, 0, 0, 0, 0, 0, 0, 0, 0],
-    },
-    Form {
-        kind: b'n',
-        lines: [false, false, true],
-        master: true,
-        count: 1,
-        letters: [b'T', 0, 0, 0, 0, 0, 0, 0, 0, 0],
-        lens: [6, 0, 0, 0, 0, 0, 0, 0, 0, 0],
-    },
-    Form {
-        kind: b'B',
-        lines: [true, false, false],
-        master: false,
-        count: 4,
-        letters: [b'L', b'%', b'H', b'R', 0, 0, 0, 0, 0, 0],
-        lens: [3, 3, 3, 2, 0, 0, 0, 0, 0, 0],
-    },
-    Form {
-        kind: b'K',
-        lines: [false, false, true],
-        master: false,
-        count: 6,
-        letters: [b'F', b'D', b'C', b'M', b'V', b'P', 0, 0, 0, 0],
-        lens: [3, 2, 2, 2, 3, 4, 0, 0, 0, 0],
-    },
-    Form {
-        kind: b'O',
-        lines: [false, false, true],
-        master: true,
-        count: 7,
-        letters: [b'F', b'D', b'C', b'M', b'V', b'P', b'T', 0, 0, 0],
-        lens: [3, 2, 2, 2, 3, 4, 6, 0, 0, 0],
-    },
-    Form {
-        kind: b'1',
-        lines: [false, true, false],
-        master: true,
-        count: 10,
-        letters: [b'F', b'D', b'C', b'M', b'V', b'P', b'W', b'X', b'Y', b'Z'],
-        lens: [3, 2, 2, 2, 3, 4, 1, 1, 1, 1],
-    },
-];
+use formrows::rows::Form;
+use formrows::rows::ROW_COUNT;
+use formrows::rows::rows;
+use lines::lines::LINE_COUNT;
+use lines::lines::is_line;
 
 // A row that was looked for.
 pub struct Looked {
@@ -207,13 +83,6 @@ fn fits(form: Form, line: u8, sought: Sought) -> bool
         Sought::Letter(kind, letter) => of_letter(form, line, kind, letter),
         Sought::Data => is_data(form, line),
     }
-}
-
-// The rows of the table, apart from the search: a check grows with locals times statements of one function.
-fn rows() -> [Form; ROW_COUNT]
-    ensures { λ r. ⌜ r ≡ forms ⌝ }
-{
-    FORMS
 }
 
 // The first row that is what is looked for; where there is none, a form of no type on no line.

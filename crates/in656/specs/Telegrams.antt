@@ -5,7 +5,7 @@ use mathlib.Core.List.{List}
 use lib.Dec.{eqb}
 use lib.ListN.{length}
 use Rattle.records.specs.Refusals.{no}
-use Rattle.forms.specs.Lines.{isLine}
+use Rattle.lines.specs.Lines.{isLine}
 use Rattle.reading.specs.Answers.{Answer, accepted, refused}
 use Rattle.reading.specs.Reading.{readingOf}
 use Rattle.writing.specs.Writing.{Write, writingOf}

@@ -8,7 +8,7 @@ use Rattle.laws.specs.Truth.{All}
 use Rattle.laws.specs.Numerals.{leftOf}
 use Rattle.laws.proofs.Passes.{on-test}
 use Rattle.packets.specs.Packets.{leadOf, isDecimal}
-use Rattle.forms.specs.declared.table.Form.{Form}
+use Rattle.formrows.specs.declared.rows.Form.{Form}
 use Rattle.forms.specs.Forms.{forms, slotsOf, slotsIn, countOf}
 use Rattle.forms.proofs.Found.{found-row}
 use Rattle.records.specs.declared.records.Record.{Record}

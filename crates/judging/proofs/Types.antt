@@ -8,9 +8,9 @@ use lib.Dec.{eqb}
 use lib.ListN.{getD}
 use borrow.Author.Tests.{eq-eqb, ne-eqb}
 use Rattle.laws.specs.Truth.{oneOf}
-use Rattle.forms.specs.Lines.{lineOf}
+use Rattle.lines.specs.Lines.{lineOf}
 use Rattle.forms.specs.Forms.{dataType}
-use Rattle.forms.specs.declared.lines.Line.{Line}
+use Rattle.lines.specs.declared.lines.Line.{Line}
 use Rattle.records.specs.Records.{typeOf, valuesOf}
 use Rattle.records.specs.declared.records.Record.{Record}
 use Rattle.records.specs.declared.records.Record.the-variants.{Request, Idling}

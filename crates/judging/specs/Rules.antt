@@ -7,7 +7,7 @@ use lib.Dec.{eqb}
 use lib.ListN.{getD}
 use Rattle.laws.specs.Truth.{both, oneOf}
 use Rattle.laws.specs.Text.{codes}
-use Rattle.forms.specs.Lines.{lineOf}
+use Rattle.lines.specs.Lines.{lineOf}
 use Rattle.forms.specs.Forms.{dataType}
 use Rattle.records.specs.Records.{typeOf, valuesOf}
 use Rattle.records.specs.declared.records.Record.{Record}

@@ -10,6 +10,10 @@ both a b = cond a b false
 abbrev pub either : Bool → Bool → Bool
 either a b = cond a true b
 
+-- if the first test holds, so does the second
+abbrev pub implies : Bool → Bool → Bool
+implies a b = cond a b true
+
 -- b is one of lo to hi
 abbrev pub from : ℕ → ℕ → ℕ → Bool
 from lo hi b = cond (ltb b lo) false (ltb b (hi + 1))

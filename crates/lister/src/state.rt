@@ -1,12 +1,12 @@
 // The state of a listing between two turns, what refuses a turn, and what a turn does (rules P1 to P5, P10).
 ghost use mathlib.Core.Path.{_≡_};
-ghost use Rattle.reading.specs.Answers.{faultOf};
+ghost use Rattle.framing.specs.Answers.{faultOf};
 ghost use Rattle.lister.specs.Lister.{atFirst, placeFits, listFault, lineNamed, lineFor, lineTask, readTask, taskFor, ended};
 use characters::marks::LONGEST;
 use characters::slices::byte_at;
-use forms::lines::is_line;
+use framing::answers::Check;
+use lines::lines::is_line;
 use listings::lines::LINE_ROOM;
-use reading::answers::Check;
 use records::refusals::Refusal;
 
 // What a listing wants next: bytes read behind those held, none where the input has ended; the next turn, the output being full; or nothing more.

@@ -11,7 +11,7 @@ use Rattle.records.specs.Refusals.{No, no}
 use Rattle.reading.specs.Answers.{Answer, accepted, refused, written}
 use Rattle.writing.specs.Writing.{Write}
 use Rattle.text.specs.Numbers.{decimalText}
-use Rattle.words.specs.Items.{refusalText}
+use Rattle.items.specs.Items.{refusalText}
 use Rattle.text.specs.Putting.{puts, placed}
 use Rattle.text.proofs.Counts.{decimal-length, at-most-twenty}
 use Rattle.text.proofs.Puts.{with-room}

@@ -8,10 +8,10 @@ use Rattle.records.specs.Refusals.{no}
 use Rattle.laws.specs.Text.{codes}
 use Rattle.records.specs.Records.{typeOf}
 use Rattle.reading.specs.Answers.{Answer, accepted, refused, written}
-use Rattle.reading.specs.Frame.{lf}
+use Rattle.characters.specs.Marks.{lf}
 use Rattle.writing.specs.Writing.{Write}
 use Rattle.text.specs.Numbers.{decimalText}
-use Rattle.words.specs.Items.{refusalText}
+use Rattle.items.specs.Items.{refusalText}
 
 -- `ok`, type, number, or `no`, refusal, place; the type is printed as its byte
 abbrev pub answerText : Answer → List ℕ

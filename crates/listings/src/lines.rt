@@ -5,6 +5,7 @@ ghost use lib.ListN.{length};
 ghost use Rattle.reading.specs.Answers.{answerOf, outcomeOf};
 ghost use Rattle.text.specs.Putting.{puts};
 ghost use Rattle.listings.specs.Lines.{answerText, answerRoom, linePut};
+use items::items::put_no;
 use reading::answers::Reading;
 use reading::answers::Writing;
 use records::records::type_of;
@@ -14,7 +15,6 @@ use records::refusals::place_of;
 use text::numbers::put_number;
 use text::putting::put_byte;
 use text::putting::put_text;
-use words::items::put_no;
 
 // Room for any line: four numbers of at most 20 digits, and 7 other bytes.
 pub const LINE_ROOM: usize = 87;

@@ -8,7 +8,7 @@ use borrow.Author.Tests.{lt-ltb, le-ltb, eq-eqb, ne-eqb, ltb-true, ltb-false}
 use Rattle.laws.specs.Truth.{both, either}
 use Rattle.laws.proofs.Truths.{both-left, both-right, both-true}
 use Rattle.laws.specs.Numerals.{numeralOn, leftOf}
-use Rattle.forms.specs.Lines.{isLine, lineOf}
+use Rattle.lines.specs.Lines.{isLine, lineOf}
 use Rattle.forms.specs.Forms.{byMaster, forms, onLine, lookIn, typeRow, formOf, dataType, slotsIn, countOf, slotsOf}
 use Rattle.records.specs.Refusals.{No, no}
 use Rattle.records.specs.Records.{typeOf}
@@ -17,7 +17,7 @@ use Rattle.records.specs.declared.records.Record.{Record}
 use Rattle.forms.proofs.Found.{each-line}
 use Rattle.packets.specs.Packets.{leadOf, isDecimal, permits, ruled, permitsNumber}
 use Rattle.values.specs.Values.{permitsRecord, textOf, narrow, numberWidth, permittedFrom, numberFits, permitsValue, permitsValues}
-use Rattle.reading.specs.Answers.{good, fails}
+use Rattle.framing.specs.Answers.{good, fails}
 use Rattle.clock.specs.Counters.{inRange}
 use Rattle.characters.specs.Marks.{longest}
 use Rattle.judging.specs.Rules.{pollOf}

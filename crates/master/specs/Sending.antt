@@ -4,13 +4,13 @@ use mathlib.Core.Bool.{Bool, false, cond}
 use mathlib.Core.List.{List}
 use lib.Dec.{eqb}
 use lib.ListN.{length}
-use Rattle.forms.specs.Lines.{lineOf}
+use Rattle.lines.specs.Lines.{lineOf}
 use Rattle.forms.specs.Forms.{byMaster}
 use Rattle.records.specs.Refusals.{no}
 use Rattle.records.specs.Records.{typeOf}
 use Rattle.records.specs.declared.records.Record.{Record}
 use Rattle.values.specs.Values.{permitsRecord}
-use Rattle.reading.specs.Answers.{Fault, good, fails}
+use Rattle.framing.specs.Answers.{Fault, good, fails}
 use Rattle.writing.specs.Writing.{telegramOf, sentOf}
 use Rattle.clock.specs.Clock.{runOut}
 use Rattle.judging.specs.Rules.{pollOf}

@@ -4,14 +4,14 @@ use Prim.Native.Char.{code}
 use mathlib.Core.Bool.{Bool, true, false, cond}
 use lib.Dec.{ltb, eqb}
 use Rattle.laws.specs.Truth.{both, either}
-use Rattle.forms.specs.Lines.{isLine}
+use Rattle.lines.specs.Lines.{isLine}
 use Rattle.forms.specs.Forms.{byMaster}
 use Rattle.records.specs.Refusals.{no}
 use Rattle.records.specs.Records.{typeOf}
 use Rattle.records.specs.declared.records.Record.{Record}
 use Rattle.records.specs.declared.records.Record.the-variants.{Idling}
 use Rattle.values.specs.Values.{permitsRecord}
-use Rattle.reading.specs.Answers.{Fault, good, fails}
+use Rattle.framing.specs.Answers.{Fault, good, fails}
 use Rattle.characters.specs.Marks.{longest}
 use Rattle.clock.specs.Counters.{inRange, changedOf}
 use Rattle.clock.specs.declared.counters.ToSend.{ToSend}

@@ -1,15 +1,15 @@
 // The master's state by value, its ranges and its start (rules M1, E1, E9, E11).
 ghost use mathlib.Core.Path.{_≡_};
-ghost use Rattle.reading.specs.Answers.{faultOf};
+ghost use Rattle.framing.specs.Answers.{faultOf};
 ghost use Rattle.master.specs.Answers.{toldOf};
 ghost use Rattle.master.specs.declared.answers.Answer.the-variants;
 ghost use Rattle.master.specs.State.{sendable, inRanges, callFault, afterSending, withLine, freed, answeredState, startOf};
 use crate::answers::Answer;
 use characters::marks::LONGEST;
 use clock::counters::ToSend;
-use forms::lines::is_line;
 use forms::table::by_master;
-use reading::answers::Check;
+use framing::answers::Check;
+use lines::lines::is_line;
 use records::records::Record;
 use records::records::type_of;
 use records::refusals::Refusal;

@@ -8,7 +8,7 @@ use Rattle.characters.specs.Marks.{lf}
 use Rattle.records.specs.declared.records.Record.{Record}
 use Rattle.master.specs.declared.state.Master.{Master}
 use Rattle.master.specs.Answers.{Told}
-use Rattle.words.specs.Items.{recordText}
+use Rattle.items.specs.Items.{recordText}
 use Rattle.scripts.specs.Printing.{beganText, numberText, lineText, outputText}
 use Rattle.mastertellings.specs.Tellings.{toldText}
 

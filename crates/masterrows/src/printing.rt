@@ -3,6 +3,7 @@ ghost use mathlib.Core.Path.{_≡_};
 ghost use Rattle.text.specs.Putting.{puts};
 ghost use Rattle.master.specs.Answers.{toldOf};
 ghost use Rattle.masterrows.specs.Printing.{numbersText, didText, alteredText, startsText, busyText, wholeText};
+use items::items::put_record;
 use master::answers::Answer;
 use master::state::Master;
 use mastertellings::tellings::put_answer;
@@ -13,7 +14,6 @@ use scripts::printing::number;
 use scripts::printing::output;
 use text::putting::put_byte;
 use text::putting::put_text;
-use words::items::put_record;
 
 // What every row of the master ends with: line, number to send, sending count.
 pub fn put_numbers(out: &mut [u8], at: usize, good: bool, to_send: u8, count: u8) -> usize

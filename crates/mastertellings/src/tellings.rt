@@ -4,6 +4,10 @@ ghost use Rattle.reading.specs.Answers.{answerOf};
 ghost use Rattle.master.specs.Answers.{whichOf, groundOf, whyOf, toldOf};
 ghost use Rattle.text.specs.Putting.{puts};
 ghost use Rattle.mastertellings.specs.Tellings.{whichText, sentText, answeredText, answerText, otherKindText, groundText, givenUpText, whyText, ignoredText, toldText};
+use items::amounts::put_bytes;
+use items::amounts::put_count;
+use items::items::put_record;
+use items::items::put_refusal;
 use master::answers::Answer;
 use master::answers::Cause;
 use master::answers::Reason;
@@ -11,10 +15,6 @@ use master::answers::Sending;
 use reading::answers::Reading;
 use records::records::Record;
 use text::putting::put_text;
-use words::amounts::put_bytes;
-use words::amounts::put_count;
-use words::items::put_record;
-use words::items::put_refusal;
 
 fn put_sending(out: &mut [u8], at: usize, s: Sending) -> usize
     ensures { λ r. ⌜ (r, now (out .exit)) ≡ puts (whichText (whichOf s)) at (now (out .entry)) ⌝ }

@@ -7,7 +7,7 @@ use Prim.Native.Char.{code}
 use Rattle.laws.specs.Truth.{oneOf}
 use Rattle.laws.specs.Text.{codes}
 use Rattle.packets.specs.Packets.{permits, digit}
-use Rattle.packets.proofs.Keys.{each, Misses, missed, missed-all}
+use Rattle.laws.proofs.Keys.{each, Misses, missed, missed-all}
 
 module _ (line kind letter at b : ℕ) where
   -- the letter of an arm of one letter

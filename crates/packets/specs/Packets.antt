@@ -1,22 +1,14 @@
 -- What each packet permits (rules V1 to V17). Assumes nothing.
 use Prim.Native.Nat.{ℕ}
 use Prim.Native.Char.{code}
-use mathlib.Core.Bool.{Bool, true, false, cond}
-use mathlib.Core.List.{[], _∷_}
+use mathlib.Core.Bool.{Bool, false, cond}
 use lib.Dec.{eqb}
 use Rattle.laws.specs.Truth.{either, from, oneOf}
 use Rattle.laws.specs.Text.{codes}
 use Rattle.characters.specs.Characters.{inSet}
-use Rattle.forms.specs.Lines.{lineOf, isKey}
+use Rattle.lines.specs.Lines.{lineOf, isKey}
 use Rattle.forms.specs.Forms.{dataType}
-
--- the fixed character that a value begins with: F is the letter C and digits, M and V are a colon and characters
-unfoldable pub leadOf : ℕ → ℕ
-leadOf letter = cond (eqb letter (code "F")) (code "C") (cond (oneOf (codes "MV") letter) (code ":") 0)
-
--- a value of digits is their number; any other is its characters
-unfoldable pub isDecimal : ℕ → Bool
-isDecimal letter = oneOf (codes "L%HESDCTRFP") letter
+unfoldable pub use Rattle.packetnumbers.specs.Numbers.{leadOf, isDecimal, ruled, permitsNumber}
 
 abbrev pub digit : ℕ → Bool
 digit b = from (code "0") (code "9") b
@@ -76,11 +68,3 @@ permits line kind letter at b =
     (cond (eqb letter (code "B")) (inRequest line kind b)
     (cond (eqb letter (code "A")) (inApproval line b)
     false))))))))))))
-
--- whether there is a rule for the number of a packet's value
-unfoldable pub ruled : ℕ → ℕ → Bool
-ruled line letter = eqb letter (code "R")
-
--- whether that number is permitted: R is 88 or 00
-unfoldable pub permitsNumber : ℕ → ℕ → ℕ → Bool
-permitsNumber line letter n = cond (eqb letter (code "R")) (oneOf (0 ∷ 88 ∷ []) n) true

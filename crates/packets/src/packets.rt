@@ -1,35 +1,10 @@
 // What each packet permits (rules V1 to V17): a match over the packet letter, with the value's bytes beside it.
 ghost use mathlib.Core.Path.{_≡_};
-ghost use Rattle.packets.specs.Packets.{leadOf, isDecimal, permits, ruled, permitsNumber, digit, inChannel, inPosition, operational, inMode, inWatch, inEffect, inRequest, inApproval};
+ghost use Rattle.packets.specs.Packets.{permits, digit, inChannel, inPosition, operational, inMode, inWatch, inEffect, inRequest, inApproval};
 use characters::characters::in_set;
-use forms::lines::is_key;
-use forms::lines::line_of;
 use forms::table::data_type;
-
-// The fixed character that a value begins with, 0 where it has none: F's C, the colon of M and V.
-pub fn lead_of(letter: u8) -> u8
-    ensures { λ r. ⌜ r ≡ leadOf letter ⌝ }
-{
-    match letter {
-        b'F' => b'C',
-        b'M' => b':',
-        b'V' => b':',
-        _ => 0,
-    }
-}
-
-// Whether a value's characters are the decimal digits of its number; else each is a digit of base 256.
-pub fn is_decimal(letter: u8) -> bool
-    ensures { λ r. ⌜ r ≡ isDecimal letter ⌝ }
-{
-    match letter {
-        b'L' | b'%' | b'H' | b'E' => true,
-        b'S' | b'D' => true,
-        b'C' | b'T' | b'R' => true,
-        b'F' | b'P' => true,
-        _ => false,
-    }
-}
+use lines::lines::is_key;
+use lines::lines::line_of;
 
 fn is_digit(b: u8) -> bool
     ensures { λ r. ⌜ r ≡ digit b ⌝ }
@@ -169,26 +144,5 @@ fn in_approval(line: u8, b: u8) -> bool
         is_key(b)
     } else {
         in_set(b)
-    }
-}
-
-// Whether there is a rule for the number of a packet's value.
-pub fn is_ruled(line: u8, letter: u8) -> bool
-    ensures { λ r. ⌜ r ≡ ruled line letter ⌝ }
-{
-    letter == b'R'
-}
-
-// Whether the number of a packet's value is permitted.
-pub fn permits_number(line: u8, letter: u8, n: u32) -> bool
-    ensures { λ r. ⌜ r ≡ permitsNumber line letter n ⌝ }
-{
-    match letter {
-        b'R' => match n {
-            0 => true,
-            88 => true,
-            _ => false,
-        },
-        _ => true,
     }
 }

@@ -14,16 +14,16 @@ use Rattle.records.specs.declared.records.Record.{Record}
 use Rattle.laws.proofs.Truths.{clash}
 use Rattle.laws.proofs.Passes.{on-test, order, every-all}
 use Rattle.characters.specs.Characters.{inSet}
-use Rattle.forms.specs.Lines.{isLine}
+use Rattle.lines.specs.Lines.{isLine}
 use Rattle.forms.specs.Forms.{forms, Slot, slotsIn, countOf, slotsOf, widthIn, widthOf}
-use Rattle.forms.specs.declared.table.Form.{Form}
+use Rattle.formrows.specs.declared.rows.Form.{Form}
 use Rattle.forms.proofs.Found.{found-row}
 use Rattle.forms.proofs.Slots.{slots-end, width-here}
 use Rattle.values.specs.Values.{permitted}
-use Rattle.reading.specs.declared.answers.Spot.{Spot}
-use Rattle.reading.specs.declared.answers.Spot.the-variants.{Nowhere, At}
+use Rattle.framing.specs.declared.answers.Spot.{Spot}
+use Rattle.framing.specs.declared.answers.Spot.the-variants.{Nowhere, At}
 use Rattle.reading.specs.Answers.{Answer, accepted, refused}
-use Rattle.reading.specs.Frame.{fieldOf, frameChecks}
+use Rattle.framing.specs.Frame.{fieldOf, frameChecks}
 use Rattle.reading.specs.Field.{rowIn, outside, wrongLetter, badValue, misshapen, fieldChecks}
 use Rattle.reading.specs.Reading.{checks, readingOf}
 use Rattle.reading.proofs.Walk.{byte-in, byte-out, letter-right, letter-wrong, value-right, value-wrong}

@@ -13,7 +13,7 @@ use Rattle.laws.specs.Numerals.{numeralOn, leftOf}
 use Rattle.laws.proofs.Truths.{both-left}
 use Rattle.laws.proofs.Passes.{on-test}
 use Rattle.characters.specs.Characters.{inSet}
-use Rattle.forms.specs.Lines.{isLine, lineOf}
+use Rattle.lines.specs.Lines.{isLine, lineOf}
 use Rattle.forms.specs.Forms.{forms, onLine, lookIn, formOf, typeRow, slotsIn, countOf, slotsOf, widthIn, widthOf}
 use Rattle.packets.specs.Packets.{leadOf, isDecimal, permits, ruled, permitsNumber}
 use Rattle.values.specs.Values.{textOf, narrow, numberWidth, permittedFrom, numberFits, permitsValue, permitsValues, rowOf, permitsRecord, lengthOf}

@@ -10,7 +10,7 @@ use Rattle.laws.specs.Text.{codes}
 use Rattle.characters.specs.Checksum.{checksumOf}
 use Rattle.records.specs.declared.records.Record.the-variants.{Approved, Rejected, Request, Idling, Stop, Train, TrainData}
 use Rattle.reading.specs.Answers.{Answer, accepted, refused}
-use Rattle.reading.specs.Frame.{lf, cr}
+use Rattle.characters.specs.Marks.{lf, cr}
 use Rattle.reading.specs.Reading.{readingOf}
 
 -- a case: bytes on a line and what they read as, or bytes and their checksum

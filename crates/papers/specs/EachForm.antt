@@ -7,18 +7,17 @@ use Prim.Native.Char.{Char, code}
 use Prim.Native.String.{String}
 use lib.Dec.{eqb}
 use lib.ListN.{getD}
-use Rattle.laws.specs.Truth.{both, every}
+use Rattle.laws.specs.Truth.{both, every, implies}
 use Rattle.records.specs.declared.records.Radio.{Radio}
 use Rattle.records.specs.declared.records.Record.{Record}
 use Rattle.records.specs.declared.records.Record.the-variants.{Approved, Rejected, Request, Idling, Test, Stop, RadioFault, Fault, Position}
 use Rattle.records.specs.declared.records.Record.the-variants.{Train, TrainData, RadioData, RadioUpdate, Transponder}
-use Rattle.forms.specs.Lines.{lineNumbers}
+use Rattle.lines.specs.Lines.{lineNumbers}
 use Rattle.forms.specs.Forms.{forms, onLine}
-use Rattle.forms.specs.declared.table.Form.{Form}
+use Rattle.formrows.specs.declared.rows.Form.{Form}
 use Rattle.reading.specs.Answers.{Answer, accepted}
 use Rattle.reading.specs.Reading.{readingOf}
 use Rattle.papers.specs.Cases.{framed}
-use Rattle.papers.specs.Lines.{implies}
 
 -- a telegram on a line, and what it reads as
 pub record Sample : Type 0 where

@@ -10,7 +10,7 @@ use Rattle.records.specs.Refusals.{no}
 use Rattle.records.specs.declared.records.Record.{Record}
 use Rattle.characters.specs.Characters.{inSet}
 use Rattle.forms.specs.Forms.{forms, onLine, countOf, widthOf}
-use Rattle.forms.specs.declared.table.Form.{Form}
+use Rattle.formrows.specs.declared.rows.Form.{Form}
 use Rattle.values.specs.Values.{permitted}
 use Rattle.reading.specs.Answers.{accepted, refused}
 use Rattle.reading.specs.Field.{rowIn}

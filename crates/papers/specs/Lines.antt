@@ -6,11 +6,11 @@ use Prim.Native.Nat.{ℕ}
 use Prim.Native.String.{String}
 use lib.Dec.{eqb}
 use lib.ListN.{getD}
-use Rattle.laws.specs.Truth.{both, oneOf, every, All}
+use Rattle.laws.specs.Truth.{both, oneOf, every, All, implies}
 use Rattle.laws.specs.Text.{codes}
-use Rattle.forms.specs.Lines.{lineNumbers, isLine}
+use Rattle.lines.specs.Lines.{lineNumbers, isLine}
 use Rattle.forms.specs.Forms.{forms, onLine, formOf, byMaster, bySlave, dataType}
-use Rattle.forms.specs.declared.table.Form.{Form}
+use Rattle.formrows.specs.declared.rows.Form.{Form}
 
 -- a line: what the master sends and what the slave sends
 pub record Senders : Type 0 where
@@ -32,10 +32,6 @@ paper =
 -- there are the lines of the paper, with its numbers
 abbrev pub SameNumbers : Type 0
 SameNumbers = map (λ (l : Senders). l .line) paper ≡ lineNumbers
-
--- if the first test holds, so does the second
-abbrev pub implies : Bool → Bool → Bool
-implies a b = cond a b true
 
 -- a form on a line is sent by the end that lists its type
 abbrev pub listedBy : Senders → Form → Bool

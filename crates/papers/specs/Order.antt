@@ -8,12 +8,12 @@ use lib.ListN.{length, getD, replicate}
 use Rattle.records.specs.Refusals.{no}
 use Rattle.laws.specs.Truth.{oneOf, every, All}
 use Rattle.laws.specs.Text.{codes}
-use Rattle.forms.specs.Lines.{isLine}
+use Rattle.lines.specs.Lines.{isLine}
 use Rattle.records.specs.declared.records.Record.{Record}
-use Rattle.reading.specs.declared.answers.Spot.{Spot}
-use Rattle.reading.specs.declared.answers.Spot.the-variants.{Nowhere, At}
+use Rattle.framing.specs.declared.answers.Spot.{Spot}
+use Rattle.framing.specs.declared.answers.Spot.the-variants.{Nowhere, At}
 use Rattle.reading.specs.Answers.{accepted, refused}
-use Rattle.reading.specs.Frame.{lf, cr}
+use Rattle.characters.specs.Marks.{lf, cr}
 use Rattle.reading.specs.Reading.{checks, readingOf}
 use Rattle.papers.specs.Cases.{framed}
 use Rattle.reading.proofs.Contents as contents

@@ -1,4 +1,3 @@
-pub mod Framing
 pub mod Walk
 pub mod Filled
 pub mod Contents

@@ -1,14 +1,11 @@
 -- What reading and writing answer, in the paper's numbers and values (rules W1, W2, G3). Assumes nothing.
 use mathlib.Core.Path.{_≡_}
-use Prim.Native.Nat.{ℕ, _+_}
-use mathlib.Core.List.{List, [], _∷_}
-use Rattle.records.specs.Refusals.{No, no, refusalOf}
+use Prim.Native.Nat.{ℕ}
+use Rattle.records.specs.Refusals.{No, refusalOf}
 use Rattle.records.specs.declared.records.Record.{Record}
-use Rattle.reading.specs.declared.answers.Spot.{Spot}
-use Rattle.reading.specs.declared.answers.Spot.the-variants.{Nowhere, At}
+use Rattle.framing.specs.Answers.{Fault, good, fails}
 use Rattle.reading.specs.declared.answers.Reading as r
 use Rattle.reading.specs.declared.answers.Writing as w
-use Rattle.reading.specs.declared.answers.Check as c
 
 -- a record with its number, or a refusal's number and place
 pub data Answer : Type 0 where
@@ -28,32 +25,14 @@ abbrev pub outcomeOf : w.Writing → Outcome
 outcomeOf (w.the-variants.Written n) = written n
 outcomeOf (w.the-variants.Refused x) = refused (refusalOf x)
 
--- no fault, or a refusal's number and place
-pub data Fault : Type 0 where
-  good : Fault
-  fails : No → Fault
-
-abbrev pub faultOf : c.Check → Fault
-faultOf c.the-variants.Good = good
-faultOf (c.the-variants.Fails x) = fails (refusalOf x)
-
--- the first check that finds a fault, with its number: the first of the list has number k
-abbrev pub firstFault : ℕ → List Spot → Fault
-firstFault k [] = good
-firstFault k (Nowhere ∷ spots) = firstFault (k + 1) spots
-firstFault k (At place ∷ spots) = fails (no k place)
-
 -- the answer where no check finds a fault
 abbrev pub unless : Fault → Answer → Answer
 unless good answer = answer
 unless (fails x) answer = refused x
 
--- a promise through these definitions allows one answer only: of reading, of writing, of a row of checks
+-- a promise through these definitions allows one answer only: of reading, of writing
 abbrev pub OneReading : Type 0
 OneReading = (a b : r.Reading) → answerOf a ≡ answerOf b → a ≡ b
 
 abbrev pub OneWriting : Type 0
 OneWriting = (a b : w.Writing) → outcomeOf a ≡ outcomeOf b → a ≡ b
-
-abbrev pub OneCheck : Type 0
-OneCheck = (a b : c.Check) → faultOf a ≡ faultOf b → a ≡ b

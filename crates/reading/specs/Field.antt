@@ -7,11 +7,11 @@ use lib.ListN.{length, getD, take, drop}
 use Rattle.characters.specs.Characters.{inSet}
 use Rattle.forms.specs.Forms.{Slot, slotsOf, widthOf, formOf}
 use Rattle.values.specs.Values.{textOf, valueOf, permitted}
-use Rattle.forms.specs.declared.table.Form.{Form}
+use Rattle.formrows.specs.declared.rows.Form.{Form}
 use Rattle.forms.specs.declared.table.Looked.{Looked}
-use Rattle.reading.specs.Frame.{needs, fieldOf}
-use Rattle.reading.specs.declared.answers.Spot.{Spot}
-use Rattle.reading.specs.declared.answers.Spot.the-variants.{Nowhere, At}
+use Rattle.framing.specs.Frame.{needs, fieldOf}
+use Rattle.framing.specs.declared.answers.Spot.{Spot}
+use Rattle.framing.specs.declared.answers.Spot.the-variants.{Nowhere, At}
 
 -- the data field of packets with these values: each a letter and then its value
 unfoldable pub dataOf : List Slot → List ℕ → List ℕ

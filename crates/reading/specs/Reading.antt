@@ -5,14 +5,15 @@ use mathlib.Core.Bool.{cond}
 use mathlib.Core.List.{List, [], _∷_, _++_}
 use lib.ListN.{getD}
 use Rattle.records.specs.Refusals.{no}
-use Rattle.forms.specs.Lines.{isLine}
+use Rattle.lines.specs.Lines.{isLine}
 use Rattle.forms.specs.Forms.{slotsOf}
 use Rattle.records.specs.Records.{recordOf}
 use Rattle.records.specs.declared.records.Record.{Record}
-use Rattle.forms.specs.declared.table.Form.{Form}
-use Rattle.reading.specs.declared.answers.Spot.{Spot}
-use Rattle.reading.specs.Answers.{Answer, accepted, refused, firstFault, unless}
-use Rattle.reading.specs.Frame.{fieldOf, frameChecks}
+use Rattle.formrows.specs.declared.rows.Form.{Form}
+use Rattle.framing.specs.declared.answers.Spot.{Spot}
+use Rattle.framing.specs.Answers.{firstFault}
+use Rattle.reading.specs.Answers.{Answer, accepted, refused, unless}
+use Rattle.framing.specs.Frame.{fieldOf, frameChecks}
 use Rattle.reading.specs.Field.{rowIn, valuesIn, misshapen, badValue, fieldChecks}
 
 -- the record that a telegram of a known type carries

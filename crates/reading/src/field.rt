@@ -2,14 +2,14 @@
 ghost use mathlib.Core.Path.{_≡_};
 ghost use Rattle.forms.specs.Forms.{slotsOf};
 ghost use Rattle.reading.specs.Field.{outside, wrongLetter, badValue, misshapen};
-use crate::answers::Spot;
 use characters::characters::SET;
 use characters::slices::byte_at;
 use characters::slices::part;
 use characters::slices::wide;
-use forms::table::Form;
+use formrows::rows::Form;
 use forms::table::count_of;
 use forms::table::width_of;
+use framing::answers::Spot;
 use values::values::permits_text;
 
 // Check 9: the first byte outside the set, whose table is made once for the field.

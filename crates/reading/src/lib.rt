@@ -1,5 +1,4 @@
 // Reading telegrams (rules W1 to W3, R1 to R11).
 pub mod answers;
 pub mod field;
-pub mod frame;
 pub mod reading;

@@ -4,8 +4,8 @@ use mathlib.Core.Bool.{true, false}
 use Prim.Native.Nat.{ℕ}
 use Prim.Native.Char.{code}
 use lib.Dec.{eqb}
-use Rattle.forms.specs.Lines.{lineOf, isKey}
-use Rattle.forms.specs.declared.lines.Line.{Line}
+use Rattle.lines.specs.Lines.{lineOf, isKey}
+use Rattle.lines.specs.declared.lines.Line.{Line}
 use Rattle.replying.specs.Fitting.{keyFits}
 use Rattle.replying.specs.Replying.{keyOn}
 

@@ -12,7 +12,7 @@ use Rattle.laws.proofs.Truths.{both-left, both-right}
 use Rattle.laws.proofs.Passes.{on-test, oneOf-passes}
 use Rattle.laws.specs.Numerals.{numeralOn, leftOf}
 use Rattle.characters.specs.Characters.{inSet}
-use Rattle.forms.specs.Lines.{isLine, lineOf}
+use Rattle.lines.specs.Lines.{isLine, lineOf}
 use Rattle.forms.specs.Forms.{forms, onLine, lookIn, typeRow, formOf, slotsIn, countOf, slotsOf, dataType}
 use Rattle.records.specs.Records.{typeOf}
 use Rattle.records.specs.declared.records.Record.{Record}

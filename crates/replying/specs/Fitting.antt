@@ -4,7 +4,7 @@ use Prim.Native.Char.{code}
 use mathlib.Core.Bool.{Bool, true, cond}
 use lib.Dec.{eqb}
 use Rattle.laws.specs.Truth.{both}
-use Rattle.forms.specs.Lines.{lineOf, isKey}
+use Rattle.lines.specs.Lines.{lineOf, isKey}
 use Rattle.forms.specs.Forms.{dataType}
 use Rattle.records.specs.Records.{typeOf}
 use Rattle.records.specs.declared.records.Record.{Record}

@@ -2,9 +2,9 @@
 ghost use mathlib.Core.Path.{_≡_};
 ghost use Rattle.replying.specs.Fitting.{mayReply, keyFits, wantedFits};
 use crate::replying::Wanted;
-use forms::lines::is_key;
-use forms::lines::line_of;
 use forms::table::data_type;
+use lines::lines::is_key;
+use lines::lines::line_of;
 use records::records::Record;
 use records::records::type_of;
 use values::values::permits_record;

@@ -3,7 +3,7 @@ ghost use mathlib.Core.Path.{_≡_};
 ghost use Rattle.deciding.specs.Deciding.{matterOf};
 ghost use Rattle.replying.specs.Replying.{originOf, keyOn, askedOf, polledOf, replyOf};
 use deciding::deciding::Matter;
-use forms::lines::line_of;
+use lines::lines::line_of;
 use records::records::Record;
 use records::refusals::Refusal;
 

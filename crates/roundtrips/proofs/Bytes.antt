@@ -13,7 +13,7 @@ use Rattle.laws.proofs.Truths.{clash, both-left, both-right}
 use Rattle.laws.proofs.Passes.{on-test, on-cond, on-either, oneOf-passes, from-bounds, from-passes}
 use Rattle.characters.specs.Characters.{inSet}
 use Rattle.characters.proofs.Codes.{low}
-use Rattle.forms.specs.Lines.{lineOf, isLine}
+use Rattle.lines.specs.Lines.{lineOf, isLine}
 use Rattle.forms.specs.Forms.{forms, onLine, lookIn, dataType}
 use Rattle.forms.proofs.Found.{each-line}
 use Rattle.packets.specs.Packets.{leadOf, isDecimal, digit, operational, permits}

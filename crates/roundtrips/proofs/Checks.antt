@@ -7,15 +7,16 @@ use Prim.Native.Char.{code}
 use lib.Dec.{eqb}
 use lib.ListN.{length, getD}
 use borrow.Author.Tests.{eqb-true, eq-eqb}
-use Rattle.forms.specs.Lines.{isLine}
+use Rattle.lines.specs.Lines.{isLine}
 use Rattle.forms.specs.Forms.{slotsOf, widthOf}
 use Rattle.records.specs.declared.records.Record.{Record}
 use Rattle.forms.proofs.Found.{found-line}
-use Rattle.reading.specs.Answers.{accepted, firstFault}
-use Rattle.reading.specs.Frame.{fieldOf, frameChecks}
+use Rattle.framing.specs.Answers.{firstFault}
+use Rattle.reading.specs.Answers.{accepted}
+use Rattle.framing.specs.Frame.{fieldOf, frameChecks}
 use Rattle.reading.specs.Field.{rowIn, outside, wrongLetter, misshapen, fieldChecks}
 use Rattle.reading.specs.Reading.{recordIn, checks, readingOf}
-use Rattle.reading.specs.declared.answers.Spot.the-variants.{Nowhere}
+use Rattle.framing.specs.declared.answers.Spot.the-variants.{Nowhere}
 use Rattle.roundtrips.proofs.Faults.{Faultless, faultless-append, faultless-parts, needs-held, no-fault, faultless-good, good-faultless, accepted-good}
 use Rattle.roundtrips.proofs.Fields.{Clear}
 use Rattle.roundtrips.proofs.Frames.{Framed, framed-faultless, faultless-framed}

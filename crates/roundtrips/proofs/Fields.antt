@@ -12,11 +12,11 @@ use borrow.Author.Tests.{eqb-true, eq-eqb}
 use Rattle.laws.specs.Truth.{every, pad}
 use Rattle.laws.proofs.Truths.{both-left, both-right, both-true}
 use Rattle.characters.specs.Characters.{inSet}
-use Rattle.forms.specs.Lines.{isLine}
+use Rattle.lines.specs.Lines.{isLine}
 use Rattle.forms.specs.Forms.{Slot, widthIn}
 use Rattle.values.specs.Values.{narrow, textOf, permitted, permitsValue, permitsValues}
 use Rattle.reading.specs.Field.{dataOf, behind, dataBehind, packetValue, outside, wrongLetter, badValue, valuesIn}
-use Rattle.reading.specs.declared.answers.Spot.the-variants.{Nowhere}
+use Rattle.framing.specs.declared.answers.Spot.the-variants.{Nowhere}
 use Rattle.roundtrips.proofs.Rows.{noSlot, narrowSlot}
 use Rattle.roundtrips.proofs.Faults.{no-fault}
 use Rattle.roundtrips.proofs.Values.{text-length, text-permitted, text-value, permitted-set, value-text, value-permitted}

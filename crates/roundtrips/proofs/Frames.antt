@@ -15,7 +15,7 @@ use Rattle.laws.specs.Numerals.{numeralOn}
 use Rattle.laws.proofs.Truths.{both-left, both-right, both-true}
 use Rattle.laws.proofs.Passes.{oneOf-passes}
 use Rattle.characters.specs.Checksum.{checksumOf, checkText}
-use Rattle.reading.specs.Frame.{lf, cr, countText, bodyOf, frameOf, tailText, summedOf, fieldOf, isTwo, frameChecks}
+use Rattle.framing.specs.Frame.{lf, cr, countText, bodyOf, frameOf, tailText, summedOf, fieldOf, isTwo, frameChecks}
 use Rattle.roundtrips.proofs.Faults.{Faultless, needs-held}
 
 -- the two characters at a place, as a test and as two equations

@@ -6,12 +6,12 @@ use Prim.Native.Nat.{ℕ, _-_}
 use Prim.Native.Char.{code}
 use lib.ListN.{getD}
 use Rattle.laws.proofs.Truths.{both-true}
-use Rattle.forms.specs.Lines.{isLine}
+use Rattle.lines.specs.Lines.{isLine}
 use Rattle.forms.specs.Forms.{Slot, slotsOf}
 use Rattle.records.specs.Records.{typeOf, valuesOf}
 use Rattle.forms.proofs.Found.{found-line, found-again}
 use Rattle.values.specs.Values.{rowOf, permitsRecord}
-use Rattle.reading.specs.Frame.{fieldOf}
+use Rattle.framing.specs.Frame.{fieldOf}
 use Rattle.reading.specs.Field.{rowIn, valuesIn}
 use Rattle.reading.specs.Reading.{recordIn}
 use Rattle.writing.specs.Writing.{telegramOf}

@@ -5,12 +5,12 @@ use mathlib.Core.List.{List}
 use Prim.Native.Nat.{ℕ}
 use Rattle.laws.specs.Truth.{All}
 use Rattle.laws.proofs.Truths.{both-left, both-right}
-use Rattle.forms.specs.Lines.{isLine}
+use Rattle.lines.specs.Lines.{isLine}
 use Rattle.forms.specs.Forms.{forms, formOf, slotsIn, countOf, slotsOf}
 use Rattle.records.specs.Records.{typeOf, letterOf, valuesOf, recordOf}
 use Rattle.values.specs.Values.{rowOf, permitsValues, permitsRecord}
 use Rattle.records.specs.declared.records.Record.{Record}
-use Rattle.forms.specs.declared.table.Form.{Form}
+use Rattle.formrows.specs.declared.rows.Form.{Form}
 use Rattle.forms.proofs.Found.{found-row, found-line}
 use Rattle.reading.specs.Field.{valuesIn}
 

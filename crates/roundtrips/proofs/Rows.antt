@@ -13,7 +13,7 @@ use Rattle.forms.specs.Forms.{Slot, forms, firstLetter, formOf, slotsIn, countO
 use Rattle.records.specs.Records.{typeOf, letterOf, fieldsOf, recordOf}
 use Rattle.packets.specs.Packets.{isDecimal}
 use Rattle.values.specs.Values.{narrow}
-use Rattle.forms.specs.declared.table.Form.{Form}
+use Rattle.formrows.specs.declared.rows.Form.{Form}
 use Rattle.forms.proofs.Found.{Found, found-row}
 
 -- what stands for a packet where there is none

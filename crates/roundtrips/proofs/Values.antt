@@ -14,7 +14,7 @@ use Rattle.laws.proofs.Truths.{both-left, both-right, both-true}
 use Rattle.laws.proofs.Passes.{both-off}
 use Rattle.laws.proofs.Digits.{AllDigits, number-numeral, numeral-number, nothing-left, numeral-length}
 use Rattle.characters.specs.Characters.{inSet}
-use Rattle.forms.specs.Lines.{isLine}
+use Rattle.lines.specs.Lines.{isLine}
 use Rattle.packets.specs.Packets.{leadOf, isDecimal, permits}
 use Rattle.values.specs.Values.{led, narrow, textOf, valueOf, numberWidth, permittedFrom, numberFits, permitted, permitsValue}
 use Rattle.roundtrips.proofs.Bytes.{leads, permits-set, permits-lead, permits-digit}

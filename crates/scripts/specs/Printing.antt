@@ -8,7 +8,7 @@ use lib.ListN.{length, take, getD}
 use Rattle.laws.specs.Text.{codes}
 use Rattle.characters.specs.Marks.{lf}
 use Rattle.clock.specs.Clock.{elapsedOf}
-use Rattle.text.specs.Frames.{shownAs}
+use Rattle.frametexts.specs.Frames.{shownAs}
 use Rattle.text.specs.Numbers.{decimalText}
 use Rattle.words.specs.Fields.{wordValue}
 

@@ -5,7 +5,7 @@ ghost use Rattle.scripts.specs.Printing.{beganText, commentText, unknown
 use characters::slices::byte_at;
 use characters::slices::part;
 use clock::clock::elapsed;
-use text::frames::put_shown;
+use frametexts::frames::put_shown;
 use text::numbers::put_number;
 use text::putting::put_byte;
 use text::putting::put_text;

@@ -1,5 +1,3 @@
 pub mod Puts
 pub mod Counts
 pub mod Parsed
-pub mod Shown
-pub mod Hexes

@@ -1,5 +1,3 @@
 // Text of rows and listings, put into a lent output or parsed from a lent slice.
-pub mod frames;
-pub mod hex;
 pub mod numbers;
 pub mod putting;

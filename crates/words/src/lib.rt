@@ -1,4 +1,2 @@
-// Rows of text: their fields and words, and refusals, values, records and amounts as rows say them.
-pub mod amounts;
+// Rows of text: their fields and words (rule P9).
 pub mod fields;
-pub mod items;

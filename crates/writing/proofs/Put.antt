@@ -13,7 +13,7 @@ use Rattle.forms.specs.Forms.{slotsIn}
 use Rattle.values.specs.Values.{textOf, packetText}
 use Rattle.characters.proofs.Parts.{part-first}
 use Rattle.forms.proofs.Slots.{slots-step}
-use Rattle.reading.specs.Frame.{countText, bodyOf, frameOf, headText, tailText}
+use Rattle.framing.specs.Frame.{countText, bodyOf, frameOf, headText, tailText}
 use Rattle.reading.specs.Field.{dataOf}
 
 -- five bytes, and three

@@ -6,13 +6,13 @@ use lib.Dec.{ltb, leb}
 use lib.ListN.{length, drop}
 use Rattle.records.specs.Refusals.{no}
 use Rattle.laws.specs.Truth.{both}
-use Rattle.forms.specs.Lines.{isLine}
+use Rattle.lines.specs.Lines.{isLine}
 use Rattle.forms.specs.Forms.{slotsOf}
 use Rattle.records.specs.Records.{typeOf, valuesOf}
 use Rattle.values.specs.Values.{rowOf, permitsRecord, lengthOf}
 use Rattle.records.specs.declared.records.Record.{Record}
 use Rattle.reading.specs.Answers.{Outcome, written, refused}
-use Rattle.reading.specs.Frame.{frameOf}
+use Rattle.framing.specs.Frame.{frameOf}
 use Rattle.reading.specs.Field.{dataOf}
 
 -- the telegram of a record with its number on a line

@@ -14,7 +14,7 @@ use Rattle.replying.specs.Replying.{Origin}
 use Rattle.replying.specs.Replying as o
 use Rattle.desk.specs.State.{inRanges}
 use Rattle.desk.specs.Panel.{losesLine, notedOf}
-use Rattle.deskhearing.specs.Queue.{replyTo, takenBy}
+use Rattle.deskqueue.specs.Queue.{replyTo, takenBy}
 use Rattle.deskhearing.specs.Hearing.{faultedOf, repeatedOf, handledOf, appliedOf, ruling, heardOf, hearOf}
 use Rattle.desk.specs.declared.state.Desk.{Desk}
 use Rattle.conduct.specs.Desk.Calls.{noted}

@@ -13,7 +13,7 @@ use Rattle.laws.specs.Truth.{from, every}
 use Rattle.laws.proofs.Truths.{clash, both-left, both-right, not-true}
 use Rattle.laws.proofs.Passes.{on-test, from-bounds}
 use Rattle.characters.specs.Marks.{longest}
-use Rattle.forms.specs.Lines.{isLine}
+use Rattle.lines.specs.Lines.{isLine}
 use Rattle.forms.specs.Forms.{byMaster, forms, onLine, lookIn, typeRow, dataType}
 use Rattle.forms.proofs.Found.{each-line}
 use Rattle.records.specs.Refusals.{No}
@@ -33,7 +33,7 @@ use Rattle.replying.specs.declared.replying.Wanted.{Wanted}
 use Rattle.replying.specs.declared.replying.Wanted.the-variants.{None, Is}
 use Rattle.deskhearing.specs.Answers.{handled}
 use Rattle.desk.specs.Panel.{losesLine, notedOf}
-use Rattle.deskhearing.specs.Queue.{oldest, replyTo}
+use Rattle.deskqueue.specs.Queue.{oldest, replyTo}
 use Rattle.deskhearing.specs.Hearing.{Hearing, faultedOf, repeatedOf, handledOf, appliedOf, ruling, hearOf}
 use Rattle.desk.specs.declared.state.Desk.{Desk}
 use Rattle.deskhearing.proofs.Permitted.{oldest-replies}

@@ -9,7 +9,7 @@ use lib.Dec.{eqb}
 use lib.ListN.{length, drop, replicate, length-append, length-drop, length-set}
 use borrow.Author.Tests.{lt-ltb, le-ltb, ne-eqb}
 use Rattle.laws.proofs.Passes.{on-test}
-use Rattle.forms.specs.Lines.{isLine, lineOf}
+use Rattle.lines.specs.Lines.{isLine, lineOf}
 use Rattle.records.specs.declared.records.Record.{Record}
 use Rattle.values.specs.Values.{permitsRecord}
 use Rattle.writing.specs.Writing.{telegramOf}
@@ -25,7 +25,7 @@ use Rattle.deskhearing.specs.Answers.{fault, repeat}
 use Rattle.replying.specs.Waiting.{waitingFits, keptFits}
 use Rattle.desk.specs.State.{numbersFit, recordsFit, inRanges, fresh, startOf}
 use Rattle.desk.specs.Panel.{losesLine, notedOf, withQueued, withRequested, withKey, tickOf, queueOf, setOf, keyOf}
-use Rattle.deskhearing.specs.Queue.{replyTo, popped, takenBy}
+use Rattle.deskqueue.specs.Queue.{replyTo, popped, takenBy}
 use Rattle.deskhearing.specs.Hearing.{withStored, marked, restarted, faultedOf, repeatedOf, handledOf, hearOf}
 use Rattle.desk.specs.declared.state.Desk.{Desk}
 use Rattle.desk.proofs.Ranges.{Fits, ranges-parts, parts-ranges, noted-ranges, kept-most}

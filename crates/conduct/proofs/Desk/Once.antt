@@ -9,7 +9,7 @@ use lib.ListN.{length, getD, take, drop}
 use lib.Seq.{take-append-seam}
 use borrow.Author.Tests.{eqb-true, eqb-false}
 use Rattle.laws.proofs.Passes.{on-test}
-use Rattle.forms.specs.Lines.{isLine}
+use Rattle.lines.specs.Lines.{isLine}
 use Rattle.records.specs.declared.records.Record.{Record}
 use Rattle.values.specs.Values.{permitsRecord}
 use Rattle.reading.specs.Answers as w
@@ -25,7 +25,7 @@ use Rattle.desk.specs.Answers.{Done, done}
 use Rattle.deskhearing.specs.Answers.{fault, repeat, handled}
 use Rattle.desk.specs.State.{startOf}
 use Rattle.desk.specs.Panel.{losesLine, notedOf, withQueued}
-use Rattle.deskhearing.specs.Queue.{oldest, replyTo}
+use Rattle.deskqueue.specs.Queue.{oldest, replyTo}
 use Rattle.deskhearing.specs.Hearing.{Hearing, faultedOf, repeatedOf, handledOf}
 use Rattle.replying.specs.Waiting.{blank}
 use Rattle.replying.specs.declared.waiting.Waiting.{Waiting}

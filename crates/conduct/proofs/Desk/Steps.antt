@@ -10,13 +10,13 @@ use lib.ListN.{length}
 use borrow.Author.Tests.{ltb-true}
 use Rattle.laws.specs.Truth.{both}
 use Rattle.laws.proofs.Passes.{on-test}
-use Rattle.forms.specs.Lines.{lineOf, isKey}
+use Rattle.lines.specs.Lines.{lineOf, isKey}
 use Rattle.forms.specs.Forms.{dataType}
 use Rattle.records.specs.Refusals.{No, no}
 use Rattle.records.specs.Records.{typeOf}
 use Rattle.records.specs.declared.records.Record.{Record}
 use Rattle.values.specs.Values.{permitsRecord}
-use Rattle.reading.specs.Answers.{Fault, good, fails}
+use Rattle.framing.specs.Answers.{Fault, good, fails}
 use Rattle.characters.specs.Marks.{longest}
 use Rattle.deciding.specs.Deciding.{What, Ruling, answersWith}
 use Rattle.deciding.specs.Deciding as r
@@ -26,7 +26,7 @@ use Rattle.desk.specs.Answers.{Done, done, lost}
 use Rattle.deskhearing.specs.Answers.{Told, silent}
 use Rattle.desk.specs.State.{inRanges}
 use Rattle.desk.specs.Panel.{losesLine, notedOf, withQueued, withRequested, withKey, recordFault, faultless, keyFault, tickOf, queueOf, setOf, keyOf}
-use Rattle.deskhearing.specs.Queue.{replyTo}
+use Rattle.deskqueue.specs.Queue.{replyTo}
 use Rattle.deskhearing.specs.Hearing.{Hearing, faultedOf, repeatedOf, handledOf, appliedOf, ruling, heardOf, hearOf}
 use Rattle.desk.specs.declared.state.Desk.{Desk}
 use Rattle.conduct.specs.Desk.Calls.{Call, ticks, queues, sets, turns, hears, did, heard, Result, saying, hearing, after, noted}

@@ -13,7 +13,7 @@ use Rattle.laws.specs.Truth.{every}
 use Rattle.laws.proofs.Truths.{both-left, both-right}
 use Rattle.laws.proofs.Passes.{on-test}
 use Rattle.forms.proofs.Found.{each-line}
-use Rattle.forms.specs.Lines.{isLine}
+use Rattle.lines.specs.Lines.{isLine}
 use Rattle.forms.specs.Forms.{forms, onLine, lookIn, typeRow, dataType, bySlave}
 use Rattle.records.specs.Records.{typeOf}
 use Rattle.records.specs.declared.records.Record.{Record}
@@ -30,7 +30,7 @@ use Rattle.deskhearing.specs.Answers.{Told}
 use Rattle.deskhearing.specs.Answers as h
 use Rattle.desk.specs.State.{storedOf, startOf}
 use Rattle.desk.specs.Panel.{losesLine, notedOf}
-use Rattle.deskhearing.specs.Queue.{oldest, replyTo}
+use Rattle.deskqueue.specs.Queue.{oldest, replyTo}
 use Rattle.deskhearing.specs.Hearing.{faultedOf, repeatedOf, handledOf, hearOf}
 use Rattle.desk.specs.declared.state.Desk.{Desk}
 use Rattle.deskhearing.proofs.Permitted.{oldest-replies, answer-permitted}

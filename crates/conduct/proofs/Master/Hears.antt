@@ -8,9 +8,10 @@ use lib.ListN.{length, getD}
 use borrow.Author.Tests.{eq-eqb, ne-eqb, eqb-true, eqb-false}
 use Rattle.records.specs.Records.{typeOf}
 use Rattle.records.specs.declared.records.Record.{Record}
-use Rattle.reading.specs.Answers.{Answer, accepted, firstFault, good}
+use Rattle.framing.specs.Answers.{firstFault, good}
+use Rattle.reading.specs.Answers.{Answer, accepted}
 use Rattle.reading.specs.Answers as w
-use Rattle.reading.specs.Frame.{frameChecks}
+use Rattle.framing.specs.Frame.{frameChecks}
 use Rattle.reading.specs.Reading.{readingOf}
 use Rattle.roundtrips.proofs.Checks.{accepted-only}
 use Rattle.roundtrips.proofs.Faults.{faultless-good}

@@ -2,9 +2,9 @@
 use mathlib.Core.Path.{refl}
 use Rattle.laws.specs.Numerals.{numeralOn, leftOf}
 use Rattle.characters.specs.Checksum.{total, checksumOf, checkText}
-use Rattle.forms.specs.Lines.{lineOf}
+use Rattle.lines.specs.Lines.{lineOf}
 use Rattle.forms.specs.Forms.{forms, onLine, lookIn, typeRow, formOf, dataType, slotsIn, countOf, slotsOf, widthIn, widthOf}
-use Rattle.reading.specs.Frame.{countText, bodyOf, frameOf}
+use Rattle.framing.specs.Frame.{countText, bodyOf, frameOf}
 use Rattle.packets.specs.Packets.{leadOf, isDecimal}
 use Rattle.values.specs.Values.{textOf}
 use Rattle.reading.specs.Field.{dataOf}

@@ -22,7 +22,7 @@ use Rattle.replying.specs.Replying as o
 use Rattle.replying.specs.declared.replying.Wanted.the-variants.{None, Is}
 use Rattle.deskhearing.specs.Answers.{handled}
 use Rattle.desk.specs.Panel.{losesLine}
-use Rattle.deskhearing.specs.Queue.{oldest}
+use Rattle.deskqueue.specs.Queue.{oldest}
 use Rattle.deskhearing.specs.Hearing.{hearOf}
 use Rattle.desk.specs.declared.state.Desk.{Desk}
 use Rattle.conduct.specs.Desk.Calls.{Fine, noted}

@@ -4,7 +4,7 @@ use mathlib.Core.Bool.{true}
 use mathlib.Core.List.{List, [], _∷_, _++_, map}
 use Prim.Native.Nat.{ℕ}
 use lib.ListN.{take}
-use Rattle.forms.specs.Lines.{isLine}
+use Rattle.lines.specs.Lines.{isLine}
 use Rattle.records.specs.declared.records.Record.{Record}
 use Rattle.reading.specs.Answers as w
 use Rattle.reading.specs.Reading.{readingOf}

@@ -5,7 +5,7 @@ use mathlib.Core.List.{List, [], _∷_, _++_, map}
 use Prim.Native.Nat.{ℕ, _≤_}
 use Prim.Native.Char.{code}
 use lib.ListN.{length, getD, take, drop}
-use Rattle.forms.specs.Lines.{lineNumbers, isLine}
+use Rattle.lines.specs.Lines.{lineNumbers, isLine}
 use Rattle.records.specs.Records.{typeOf}
 use Rattle.records.specs.declared.records.Record.{Record}
 use Rattle.records.specs.declared.records.Record.the-variants.{Approved}
@@ -18,7 +18,7 @@ use Rattle.replying.specs.Replying.{Origin, queue, key, keyOn}
 use Rattle.deskhearing.specs.Answers.{handled}
 use Rattle.replying.specs.Waiting.{blank}
 use Rattle.desk.specs.Panel.{losesLine}
-use Rattle.deskhearing.specs.Queue.{oldest}
+use Rattle.deskqueue.specs.Queue.{oldest}
 use Rattle.deskhearing.specs.Hearing.{Hearing, ruling, hearOf}
 use Rattle.replying.specs.declared.waiting.Waiting.{Waiting}
 use Rattle.desk.specs.declared.state.Desk.{Desk}

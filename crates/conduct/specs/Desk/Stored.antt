@@ -4,7 +4,7 @@ use mathlib.Core.Bool.{Bool, true}
 use mathlib.Core.List.{List}
 use Prim.Native.Nat.{ℕ, _≤_}
 use lib.ListN.{length, take}
-use Rattle.forms.specs.Lines.{isLine}
+use Rattle.lines.specs.Lines.{isLine}
 use Rattle.forms.specs.Forms.{bySlave}
 use Rattle.records.specs.Records.{typeOf}
 use Rattle.records.specs.declared.records.Record.{Record}

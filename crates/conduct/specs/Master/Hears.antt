@@ -9,9 +9,10 @@ use Rattle.characters.specs.Marks.{longest}
 use Rattle.records.specs.Refusals.{No}
 use Rattle.records.specs.Records.{typeOf}
 use Rattle.records.specs.declared.records.Record.{Record}
-use Rattle.reading.specs.Answers.{accepted, firstFault, good, fails}
+use Rattle.framing.specs.Answers.{firstFault, good, fails}
+use Rattle.reading.specs.Answers.{accepted}
 use Rattle.reading.specs.Answers as w
-use Rattle.reading.specs.Frame.{frameChecks}
+use Rattle.framing.specs.Frame.{frameChecks}
 use Rattle.reading.specs.Reading.{readingOf}
 use Rattle.clock.specs.Counters.{numberIn}
 use Rattle.judging.specs.Rules.{isFailure, permittedAnswer}

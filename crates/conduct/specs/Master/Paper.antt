@@ -10,9 +10,9 @@ use lib.Dec.{eqb}
 use Rattle.laws.specs.Truth.{both, either, oneOf, every, All}
 use Rattle.laws.specs.Text.{codes}
 use Rattle.characters.specs.Marks.{lf, cr}
-use Rattle.forms.specs.Lines.{lineNumbers}
+use Rattle.lines.specs.Lines.{lineNumbers}
 use Rattle.forms.specs.Forms.{byMaster, forms}
-use Rattle.forms.specs.declared.table.Form.{Form}
+use Rattle.formrows.specs.declared.rows.Form.{Form}
 use Rattle.records.specs.declared.records.Record.{Record}
 use Rattle.records.specs.declared.records.Record.the-variants.{Request, Idling}
 use Rattle.writing.specs.Writing.{telegramOf}

@@ -3,7 +3,7 @@ use Rattle.desk.proofs.Ranges.{ranges-parts}
 use Rattle.deskhearing.proofs.Permitted.{answer-permitted}
 use Rattle.deskhearing.proofs.Sendings.{front-most, sent-inside, reply-record, handle-sent}
 use Rattle.deciding.specs.Deciding.{matterOf}
-use Rattle.deskhearing.specs.Queue.{replyTo}
+use Rattle.deskqueue.specs.Queue.{replyTo}
 use Rattle.values.specs.Values.{permitsRecord}
 use lib.ListN.{length, length-map}
 use lib.Seq.{length-take-le}

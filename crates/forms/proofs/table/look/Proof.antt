@@ -7,7 +7,7 @@ use native.Mathlib.Omega.{arith}
 use lib.ListN.{length, drop}
 use Rattle.forms.proofs.Rows.{hit, miss, none-left}
 use Rattle.forms.specs.Forms.{forms, testOf, lookIn}
-use Rattle.forms.specs.declared.table.Form.{Form}
+use Rattle.formrows.specs.declared.rows.Form.{Form}
 use Rattle.forms.proofs.table.look.Statement.{statement}
 use Rattle.forms.proofs.table.look.Tie as tie
 

@@ -1,5 +1,5 @@
 -- `packets::packets::in_effect` meets its contract. Assumes nothing.
-use Rattle.packets.proofs.Keys.{hit-any, missed-all}
+use Rattle.laws.proofs.Keys.{hit-any, missed-all}
 use Rattle.laws.specs.Text.{codes}
 use mathlib.Core.Path.{refl, sym}
 use mathlib.Core.List.{[], _∷_}

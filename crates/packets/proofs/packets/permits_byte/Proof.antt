@@ -1,5 +1,5 @@
 -- `packets::packets::permits_byte` meets its contract. Assumes nothing.
-use Rattle.packets.proofs.Keys.{hit-any, missed-all}
+use Rattle.laws.proofs.Keys.{hit-any, missed-all}
 use Rattle.packets.proofs.Permitted.{at-letter, at-digits, at-none}
 use Rattle.laws.specs.Text.{codes}
 use Rattle.laws.specs.Truth.{either, from, oneOf}

@@ -3,7 +3,7 @@ use mathlib.Core.Path.{_≡_, sym, _∙_}
 use mathlib.Core.Bool.{true, false}
 use borrow.Author.Tests.{eq-eqb, ne-eqb}
 use Rattle.laws.proofs.Truths.{not-true, not-false}
-use Rattle.forms.specs.Lines.{isLine}
+use Rattle.lines.specs.Lines.{isLine}
 use Rattle.lister.specs.Lister.{placeFits}
 use borrow.Author.Needs.{needs}
 use Rattle.lister.proofs.state.Lister.place_fits.Statement.{statement}

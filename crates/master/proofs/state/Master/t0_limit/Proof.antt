@@ -1,6 +1,6 @@
 -- `master::state::Master::t0_limit` is that of the line's row. Assumes nothing.
 use mathlib.Core.Path.{ap}
-use Rattle.forms.specs.declared.lines.Line.{Line}
+use Rattle.lines.specs.declared.lines.Line.{Line}
 use Rattle.master.specs.Sending.{t0Limit}
 use borrow.Author.Needs.{needs}
 use Rattle.master.proofs.state.Master.t0_limit.Statement.{statement}

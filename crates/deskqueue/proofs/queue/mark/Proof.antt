@@ -1,0 +1,16 @@
+-- `deskqueue::queue::mark` meets its contract. Assumes nothing.
+use Rattle.deskqueue.specs.Queue.{marked, restarted}
+use Rattle.desk.specs.declared.state.Desk.{Desk}
+use mathlib.Core.Path.{ap}
+use borrow.Author.Needs.{needs}
+use Rattle.deskqueue.proofs.queue.mark.Statement.{statement}
+use Rattle.deskqueue.proofs.queue.mark.Tie as tie
+
+without-requires : tie.Need-without-requires
+without-requires c κs = search needs
+
+returns : tie.Need-returns
+returns c = let a = c .before .args in ap (λ (d : Desk). restarted (marked d (a .number)) (a .at)) (c .without .ensures)
+
+pub mark-spec : {M : Type 1} → statement M
+mark-spec = tie.close (tie.spec without-requires returns)

@@ -1,0 +1,21 @@
+-- `deskqueue::queue::pop` meets its contract. Assumes nothing.
+use Rattle.deskqueue.proofs.Leaving.{popped-by}
+use native.Mathlib.Omega.{arith}
+use borrow.Author.Needs.{needs}
+use Rattle.deskqueue.proofs.queue.pop.Statement.{statement}
+use Rattle.deskqueue.proofs.queue.pop.Tie as tie
+
+shift-requires : tie.Need-shift-requires
+shift-requires c κs = search needs
+
+sub-d : tie.Need-sub-d
+sub-d c = search needs
+
+returns : tie.Need-returns
+returns c = popped-by (c .before .before .before .args .desk) _ _ (c .before .shift .ensures) (omega arith)
+
+returns-2 : tie.Need-returns-2
+returns-2 c = popped-by (c .before .before .before .args .desk) _ _ (c .before .shift .ensures) (omega arith)
+
+pub pop-spec : {M : Type 1} → statement M
+pop-spec = tie.close (tie.spec shift-requires sub-d returns returns-2)

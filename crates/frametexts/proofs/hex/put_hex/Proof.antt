@@ -1,0 +1,38 @@
+-- `put_hex` puts the two digits one behind the other. Assumes nothing.
+use Rattle.characters.specs.Checksum.{checkText}
+use Rattle.text.proofs.Puts.{then}
+use borrow.Author.Needs.{needs}
+use Rattle.frametexts.proofs.hex.put_hex.Statement.{statement}
+use Rattle.frametexts.proofs.hex.put_hex.Tie as tie
+
+hex-requires : tie.Need-hex-requires
+hex-requires c κs = search needs
+
+put-byte-requires : tie.Need-put-byte-requires
+put-byte-requires c κs = search needs
+
+hex-requires-2 : tie.Need-hex-requires-2
+hex-requires-2 c κs = search needs
+
+put-byte-requires-2 : tie.Need-put-byte-requires-2
+put-byte-requires-2 c κs = search needs
+
+same-length : tie.Need-same-length
+same-length c = search needs
+
+returns : tie.Need-returns
+unfolding checkText
+returns c =
+    let p = c .before .before .before .before .before .before .before in
+    rw (← (p .before .hex .ensures), ← (c .before .before .before .hex2 .ensures)) (then _ _ _ _ _ _ _ _ (p .put-byte .ensures) (c .before .before .put-byte2 .ensures))
+
+pub put-hex-spec : {M : Type 1} → statement M
+put-hex-spec =
+    tie.close
+    (tie.spec
+    hex-requires
+    put-byte-requires
+    hex-requires-2
+    put-byte-requires-2
+    same-length
+    returns)

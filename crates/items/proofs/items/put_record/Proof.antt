@@ -1,0 +1,28 @@
+-- `put_record` puts the type and the values behind it. Assumes nothing.
+use Rattle.items.specs.Items.{recordText}
+use Rattle.text.proofs.Puts.{then}
+use borrow.Author.Needs.{needs}
+use Rattle.items.proofs.items.put_record.Statement.{statement}
+use Rattle.items.proofs.items.put_record.Tie as tie
+
+type-of-requires : tie.Need-type-of-requires
+type-of-requires c κs = search needs
+
+put-byte-requires : tie.Need-put-byte-requires
+put-byte-requires c κs = search needs
+
+put-values-requires : tie.Need-put-values-requires
+put-values-requires c κs = search needs
+
+same-length : tie.Need-same-length
+same-length c = search needs
+
+returns : tie.Need-returns
+unfolding recordText
+returns c =
+    let p = c .before .before .before .before .before .before in
+    rw (← (p .before .type-of .ensures)) (then _ _ _ _ _ _ _ _ (p .put-byte .ensures) (c .before .before .put-values .ensures))
+
+pub put-record-spec : {M : Type 1} → statement M
+put-record-spec =
+    tie.close (tie.spec type-of-requires put-byte-requires put-values-requires same-length returns)

@@ -1,0 +1,32 @@
+-- `put_refusal` puts the refusal's number and place. Assumes nothing.
+use mathlib.Core.Path.{ap₂, _∙_}
+use Prim.Native.Nat.{ℕ}
+use Rattle.records.specs.Refusals.{no}
+use Rattle.text.specs.Putting.{puts}
+use Rattle.items.specs.Items.{refusalText}
+use borrow.Author.Needs.{needs}
+use Rattle.items.proofs.items.put_refusal.Statement.{statement}
+use Rattle.items.proofs.items.put_refusal.Tie as tie
+
+number-of-requires : tie.Need-number-of-requires
+number-of-requires c κs = search needs
+
+place-of-requires : tie.Need-place-of-requires
+place-of-requires c κs = search needs
+
+put-no-requires : tie.Need-put-no-requires
+put-no-requires c κs = search needs
+
+same-length : tie.Need-same-length
+same-length c = search needs
+
+returns : tie.Need-returns
+returns c =
+    let n = c .before .before .before .before in
+    let a = n .before .before .before .args in
+    c .before .before .put-no .ensures
+    ∙ ap₂ (λ (i j : ℕ). puts (refusalText (no i j)) (a .at) (a .out .now)) (n .number-of .ensures) (c .before .before .before .place-of .ensures)
+
+pub put-refusal-spec : {M : Type 1} → statement M
+put-refusal-spec =
+    tie.close (tie.spec number-of-requires place-of-requires put-no-requires same-length returns)

@@ -1,0 +1,49 @@
+-- `put_values` puts as many values as the record has. Assumes nothing.
+use mathlib.Core.Path.{sym, ap, _∙_}
+use mathlib.Core.List.{List}
+use Prim.Native.Nat.{ℕ}
+use native.Mathlib.Omega.{arith}
+use lib.Seq.{length-take-le}
+use Rattle.text.specs.Putting.{puts}
+use Rattle.items.specs.Items.{valuesText}
+use Rattle.items.proofs.Values.{most, its-values}
+use borrow.Author.Needs.{needs}
+use Rattle.items.proofs.items.put_values.Statement.{statement}
+use Rattle.items.proofs.items.put_values.Tie as tie
+
+values-of-requires : tie.Need-values-of-requires
+values-of-requires c κs = search needs
+
+count-of-requires : tie.Need-count-of-requires
+count-of-requires c κs = search needs
+
+array-share-prefix-v : tie.Need-array-share-prefix-v
+array-share-prefix-v c = omega (arith, most (c .before .before .before .before .args .rec))
+
+slice-aggregate-put-numbers : tie.Need-slice-aggregate-put-numbers
+slice-aggregate-put-numbers c = sym (length-take-le (c .before .before .count-of .result) _ (omega (arith, most (c .before .before .before .before .before .args .rec))))
+
+put-numbers-requires : tie.Need-put-numbers-requires
+put-numbers-requires c κs = search needs
+
+same-length : tie.Need-same-length
+same-length c = search needs
+
+returns : tie.Need-returns
+returns c =
+    let n = c .before .before .before .before .before in
+    let a = n .before .before .before .args in
+    c .before .before .put-numbers .ensures
+    ∙ ap (λ (t : List ℕ). puts (valuesText t) (a .at) (a .out .now)) (its-values (a .rec) (n .before .values-of .result) (n .count-of .result) (n .before .values-of .ensures) (n .count-of .ensures))
+
+pub put-values-spec : {M : Type 1} → statement M
+put-values-spec =
+    tie.close
+    (tie.spec
+    values-of-requires
+    count-of-requires
+    array-share-prefix-v
+    slice-aggregate-put-numbers
+    put-numbers-requires
+    same-length
+    returns)

@@ -1,0 +1,48 @@
+-- `lines::lines::line_of` meets its contract. Assumes nothing.
+use mathlib.Core.Path.{sym, _∙_}
+use lib.ListN.{length}
+use native.Mathlib.Omega.{arith}
+use Rattle.lines.specs.Lines.{lines, lineOf}
+use Rattle.laws.proofs.Passes.{from-bounds}
+use borrow.Author.Needs.{needs}
+use Rattle.lines.proofs.lines.line_of.Statement.{statement}
+use Rattle.lines.proofs.lines.line_of.Tie as tie
+
+is-line-requires : tie.Need-is-line-requires
+is-line-requires c κs = search needs
+
+sub-result : tie.Need-sub-result
+sub-result c =
+    let h = from-bounds 1 (length lines) (c .before .before .args .line) (sym (c .before .is-line .ensures) ∙ c .if1 .taken) in
+    omega arith
+
+cast-result : tie.Need-cast-result
+cast-result c = search needs
+
+mul-result : tie.Need-mul-result
+mul-result c = search needs
+
+array-copy-out-result : tie.Need-array-copy-out-result
+array-copy-out-result c =
+    let h = from-bounds 1 (length lines) (c .before .before .args .line) (sym (c .before .is-line .ensures) ∙ c .if1 .taken) in
+    omega arith
+
+returns : tie.Need-returns
+unfolding lineOf
+returns c = rw (← (c .before .before .is-line .ensures), c .before .if1 .taken)
+
+returns-2 : tie.Need-returns-2
+unfolding lineOf
+returns-2 c = rw (← (c .before .is-line .ensures), c .if1 .left)
+
+pub line-of-spec : {M : Type 1} → statement M
+line-of-spec =
+    tie.close
+    (tie.spec
+    is-line-requires
+    sub-result
+    cast-result
+    mul-result
+    array-copy-out-result
+    returns
+    returns-2)
