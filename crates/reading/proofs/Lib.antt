@@ -1,4 +1,2 @@
-pub mod Walk
-pub mod Filled
 pub mod Contents
 pub mod Apart

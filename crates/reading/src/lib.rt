@@ -1,4 +1,3 @@
 // Reading telegrams (rules W1 to W3, R1 to R11).
 pub mod answers;
-pub mod field;
 pub mod reading;

@@ -1,20 +1,17 @@
 // Reading a telegram (rules W1, W2): 15 before all, then checks 1 to 11 in order, then its record and number.
 ghost use mathlib.Core.Path.{_≡_};
 ghost use Prim.Native.Nat.{_-_};
-ghost use Rattle.forms.specs.Forms.{slotsOf};
 ghost use Rattle.reading.specs.Answers.{answerOf};
-ghost use Rattle.reading.specs.Field.{valuesIn};
 ghost use Rattle.reading.specs.Reading.{inForm, contentsOf, readingOf};
 use crate::answers::Reading;
-use crate::field::bad_value;
-use crate::field::outside_set;
-use crate::field::wrong_form;
 use characters::slices::byte_at;
 use characters::slices::less;
 use characters::slices::part;
-use characters::slices::wide;
+use datafields::field::bad_value;
+use datafields::field::outside_set;
+use datafields::field::values_in;
+use datafields::field::wrong_form;
 use formrows::rows::Form;
-use forms::table::count_of;
 use forms::table::form_of;
 use framing::answers::Check;
 use framing::answers::Spot;
@@ -22,26 +19,6 @@ use framing::frame::frame_check;
 use lines::lines::is_line;
 use records::records::record_of;
 use records::refusals::Refusal;
-use values::values::value_of;
-
-// The packets' values, with 0 in the places behind them.
-fn values_in(field: &[u8], form: Form) -> [u32; 10]
-    ensures { λ r. ⌜ r ≡ valuesIn 10 (slotsOf form) (now (field .entry)) ⌝ }
-{
-    let letters = form.letters;
-    let lens = form.lens;
-    let count = count_of(form);
-    let mut values = [0u32; 10];
-    let mut at: usize = 0;
-    let mut j: usize = 0;
-    while j < count {
-        let len = wide(lens[j]);
-        values[j] = value_of(letters[j], part(field, at + 1, len));
-        at = at + (1 + len);
-        j = j + 1;
-    }
-    values
-}
 
 // Checks 10 and 11, and the record of a field that passes them.
 fn in_form(line: u8, kind: u8, number: u8, field: &[u8], form: Form) -> Reading

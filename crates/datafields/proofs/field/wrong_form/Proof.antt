@@ -1,9 +1,9 @@
--- `reading::field::wrong_form` meets its contract. Assumes nothing.
-use Rattle.reading.specs.Field.{misshapen}
+-- `datafields::field::wrong_form` meets its contract. Assumes nothing.
+use Rattle.datafields.specs.Field.{misshapen}
 use borrow.Author.Tests.{eq-eqb, ne-eqb}
 use borrow.Author.Needs.{needs}
-use Rattle.reading.proofs.field.wrong_form.Statement.{statement}
-use Rattle.reading.proofs.field.wrong_form.Tie as tie
+use Rattle.datafields.proofs.field.wrong_form.Statement.{statement}
+use Rattle.datafields.proofs.field.wrong_form.Tie as tie
 
 width-of-requires : tie.Need-width-of-requires
 width-of-requires c κs = search needs

@@ -1,4 +1,4 @@
--- `reading::field::outside_set` meets its contract. Assumes nothing.
+-- `datafields::field::outside_set` meets its contract. Assumes nothing.
 use denote.Ref.{now}
 use borrow.Author.Needs.{needs}
 use native.Mathlib.Omega.{arith}
@@ -11,10 +11,10 @@ use lib.Seq.{drop-length}
 use Rattle.laws.proofs.Listed.{listed-at}
 use Rattle.characters.proofs.Codes.{high}
 use Rattle.characters.specs.Characters.{inSet}
-use Rattle.reading.specs.Field.{outside}
-use Rattle.reading.proofs.Walk.{byte-in, byte-out}
-use Rattle.reading.proofs.field.outside_set.Statement.{statement}
-use Rattle.reading.proofs.field.outside_set.Tie as tie
+use Rattle.datafields.specs.Field.{outside}
+use Rattle.datafields.proofs.Walk.{byte-in, byte-out}
+use Rattle.datafields.proofs.field.outside_set.Statement.{statement}
+use Rattle.datafields.proofs.field.outside_set.Tie as tie
 
 abbrev Inv-loop : tie.InvT-loop
 Inv-loop field set i₀ i = (i ≤ length field) × (outside (5 + i) (drop i field) ≡ outside 5 field)

@@ -1,7 +1,7 @@
--- `reading::reading::values_in` meets its contract. Assumes nothing.
-use Rattle.reading.proofs.Filled.{filled-step, behind-step, filled-end}
-use Rattle.reading.proofs.Walk.{value-here}
-use Rattle.reading.specs.Field.{valuesIn}
+-- `datafields::field::values_in` meets its contract. Assumes nothing.
+use Rattle.datafields.proofs.Filled.{filled-step, behind-step, filled-end}
+use Rattle.datafields.proofs.Walk.{value-here}
+use Rattle.datafields.specs.Field.{valuesIn}
 use Rattle.values.specs.Values.{valueOf}
 use Rattle.laws.specs.Truth.{pad}
 use lib.ListN.{length-set, length, take, drop, getD}
@@ -13,8 +13,8 @@ use native.Mathlib.Omega.{arith}
 use borrow.Author.Needs.{needs}
 use denote.Ref.{now}
 use mathlib.Core.Path.{_≡_, refl, ap, _∙_}
-use Rattle.reading.proofs.reading.values_in.Statement.{statement}
-use Rattle.reading.proofs.reading.values_in.Tie as tie
+use Rattle.datafields.proofs.field.values_in.Statement.{statement}
+use Rattle.datafields.proofs.field.values_in.Tie as tie
 
 abbrev Inv-loop : tie.InvT-loop
 Inv-loop field letters lens count values₀ at₀ j₀ values at j =

@@ -1,7 +1,7 @@
-// The data field: checks 9 to 11 (rules R9 to R11).
+// The data field: checks 9 to 11, and its values (rules R9 to R11).
 ghost use mathlib.Core.Path.{_≡_};
 ghost use Rattle.forms.specs.Forms.{slotsOf};
-ghost use Rattle.reading.specs.Field.{outside, wrongLetter, badValue, misshapen};
+ghost use Rattle.datafields.specs.Field.{outside, wrongLetter, badValue, misshapen, valuesIn};
 use characters::characters::SET;
 use characters::slices::byte_at;
 use characters::slices::part;
@@ -11,9 +11,10 @@ use forms::table::count_of;
 use forms::table::width_of;
 use framing::answers::Spot;
 use values::values::permits_text;
+use values::values::value_of;
 
 // Check 9: the first byte outside the set, whose table is made once for the field.
-pub(crate) fn outside_set(field: &[u8]) -> Spot
+pub fn outside_set(field: &[u8]) -> Spot
     ensures { λ r. ⌜ r ≡ outside 5 (now (field .entry)) ⌝ }
 {
     let set = SET;
@@ -51,7 +52,7 @@ fn wrong_letter(field: &[u8], form: Form) -> Spot
 }
 
 // Check 10: data field of another length, or a packet letter wrong.
-pub(crate) fn wrong_form(field: &[u8], form: Form) -> Spot
+pub fn wrong_form(field: &[u8], form: Form) -> Spot
     ensures { λ r. ⌜ r ≡ misshapen form (now (field .entry)) ⌝ }
 {
     if field.len() == width_of(form) {
@@ -62,7 +63,7 @@ pub(crate) fn wrong_form(field: &[u8], form: Form) -> Spot
 }
 
 // Check 11: the letter of the first packet whose value is not permitted.
-pub(crate) fn bad_value(line: u8, kind: u8, field: &[u8], form: Form) -> Spot
+pub fn bad_value(line: u8, kind: u8, field: &[u8], form: Form) -> Spot
     ensures { λ r. ⌜ r ≡ badValue line kind 5 (slotsOf form) (now (field .entry)) ⌝ }
 {
     let letters = form.letters;
@@ -79,4 +80,23 @@ pub(crate) fn bad_value(line: u8, kind: u8, field: &[u8], form: Form) -> Spot
         j = j + 1;
     }
     Spot::Nowhere
+}
+
+// The packets' values, with 0 in the places behind them.
+pub fn values_in(field: &[u8], form: Form) -> [u32; 10]
+    ensures { λ r. ⌜ r ≡ valuesIn 10 (slotsOf form) (now (field .entry)) ⌝ }
+{
+    let letters = form.letters;
+    let lens = form.lens;
+    let count = count_of(form);
+    let mut values = [0u32; 10];
+    let mut at: usize = 0;
+    let mut j: usize = 0;
+    while j < count {
+        let len = wide(lens[j]);
+        values[j] = value_of(letters[j], part(field, at + 1, len));
+        at = at + (1 + len);
+        j = j + 1;
+    }
+    values
 }

@@ -1,6 +1,6 @@
--- `reading::field::bad_value` meets its contract. Assumes nothing.
-use Rattle.reading.proofs.Walk.{value-right, value-wrong}
-use Rattle.reading.specs.Field.{badValue}
+-- `datafields::field::bad_value` meets its contract. Assumes nothing.
+use Rattle.datafields.proofs.Walk.{value-right, value-wrong}
+use Rattle.datafields.specs.Field.{badValue}
 use Rattle.values.specs.Values.{permitted}
 use lib.ListN.{getD, drop}
 use mathlib.Core.List.{List, []}
@@ -12,8 +12,8 @@ use Rattle.laws.proofs.Truths.{not-true, not-false}
 use borrow.Author.Needs.{needs}
 use denote.Ref.{now}
 use mathlib.Core.Path.{_≡_, sym, ap, _∙_}
-use Rattle.reading.proofs.field.bad_value.Statement.{statement}
-use Rattle.reading.proofs.field.bad_value.Tie as tie
+use Rattle.datafields.proofs.field.bad_value.Statement.{statement}
+use Rattle.datafields.proofs.field.bad_value.Tie as tie
 
 abbrev Inv-loop : tie.InvT-loop
 Inv-loop line kind field letters lens count at₀ j₀ at j =

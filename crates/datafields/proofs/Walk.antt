@@ -14,7 +14,7 @@ use Rattle.values.specs.Values.{permitted, valueOf}
 use Rattle.characters.proofs.Parts.{part-first}
 use Rattle.forms.proofs.Slots.{slots-step}
 use Rattle.framing.specs.declared.answers.Spot.the-variants.{At}
-use Rattle.reading.specs.Field.{outside, wrongLetter, badValue, valuesIn}
+use Rattle.datafields.specs.Field.{outside, wrongLetter, badValue, valuesIn}
 
 -- one byte of the field
 module _ (d : List ℕ) (i : ℕ) (h : i < length d) where

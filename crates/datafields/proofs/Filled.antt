@@ -8,7 +8,7 @@ use native.Mathlib.Nat.{le-of-suc-le-suc}
 use lib.ListN.{length, take, drop, set, take-append-drop}
 use lib.Seq.{drop-drop, drop-set-lt, take-suc-set}
 use Rattle.laws.specs.Truth.{pad}
-use Rattle.reading.specs.Field.{valuesIn}
+use Rattle.datafields.specs.Field.{valuesIn}
 
 -- one value more stands in the array
 pub filled-step : (vs : List ℕ) (j x : ℕ) (more full : List ℕ) → j < length vs → take j vs ++ (x ∷ more) ≡ full → take (j + 1) (set vs j x) ++ more ≡ full

@@ -1,6 +1,6 @@
--- `reading::field::wrong_letter` meets its contract. Assumes nothing.
-use Rattle.reading.proofs.Walk.{letter-right, letter-wrong}
-use Rattle.reading.specs.Field.{wrongLetter}
+-- `datafields::field::wrong_letter` meets its contract. Assumes nothing.
+use Rattle.datafields.proofs.Walk.{letter-right, letter-wrong}
+use Rattle.datafields.specs.Field.{wrongLetter}
 use Rattle.forms.proofs.Slots.{count-small, slots-end}
 use Rattle.forms.specs.Forms.{slotsIn, slotsOf}
 use lib.ListN.{drop}
@@ -10,8 +10,8 @@ use native.Mathlib.Omega.{arith}
 use borrow.Author.Needs.{needs}
 use denote.Ref.{now}
 use mathlib.Core.Path.{_≡_, sym, _∙_}
-use Rattle.reading.proofs.field.wrong_letter.Statement.{statement}
-use Rattle.reading.proofs.field.wrong_letter.Tie as tie
+use Rattle.datafields.proofs.field.wrong_letter.Statement.{statement}
+use Rattle.datafields.proofs.field.wrong_letter.Tie as tie
 
 abbrev Inv-loop : tie.InvT-loop
 Inv-loop field letters lens count at₀ j₀ at j =
