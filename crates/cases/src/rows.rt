@@ -4,11 +4,11 @@ ghost use lib.ListN.{length};
 use crate::runs;
 use characters::slices::part;
 use compared::rows::put_row;
-use compared::tally::Tally;
-use compared::tally::put_tally;
 use stdio::input::Got;
 use stdio::input::read_full;
 use stdio::output::write_out;
+use tallies::tally::Tally;
+use tallies::tally::put_tally;
 use words::fields::field;
 
 // Room for a row's name and expectation, which have under 65,536 bytes, as that is all that is read, and 256 for what came.

@@ -1,3 +1,2 @@
-// What came, compared with what was expected: a row for each, and how many differ.
+// What came, compared with what was expected: a row for each (rule P7).
 pub mod rows;
-pub mod tally;

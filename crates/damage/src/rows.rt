@@ -2,9 +2,9 @@
 use crate::telegrams;
 use characters::slices::part;
 use compared::rows::put_row;
-use compared::tally::Tally;
-use compared::tally::put_tally;
 use stdio::output::write_out;
+use tallies::tally::Tally;
+use tallies::tally::put_tally;
 use text::numbers::put_number;
 use text::putting::put_text;
 

@@ -22,7 +22,7 @@ use Rattle.characters.specs.Marks.{longest}
 use Rattle.deciding.specs.Deciding.{What, Ruling, silent, fault, repeat, handle, answersWith}
 use Rattle.deciding.proofs.Numbers.{ruling-number}
 use Rattle.replying.proofs.Permitted.{fault-permitted}
-use Rattle.judging.specs.Rules.{isFailure}
+use Rattle.masterrules.specs.Rules.{isFailure}
 use Rattle.conduct.proofs.Master.Calls.{rejects}
 use Rattle.desk.specs.Answers.{Done, done, lost}
 use Rattle.desk.specs.State.{inRanges, storedOf, startOf}

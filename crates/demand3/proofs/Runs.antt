@@ -18,7 +18,7 @@ use Rattle.deciding.specs.Deciding as r
 use Rattle.replying.specs.Fitting as u
 use Rattle.replying.specs.Replying as q
 use Rattle.replying.specs.Waiting as k
-use Rattle.judging.specs.Rules.{pollOf, isFailure, answersTo, permittedAnswer}
+use Rattle.masterrules.specs.Rules.{pollOf, isFailure, answersTo, permittedAnswer}
 use Rattle.judging.specs.Judging.{answeredBy, judgeOf}
 use Rattle.master.specs.State.{sendable, inRanges, callFault, startOf}
 use Rattle.master.specs.Sending.{t0Limit, sendingOf, failedOf, offerFault, offerOf, pollingOf, waitingOf, tickOf}

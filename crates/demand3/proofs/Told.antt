@@ -15,7 +15,7 @@ use Rattle.framing.specs.Frame.{frameChecks}
 use Rattle.reading.specs.Reading.{readingOf}
 use Rattle.clock.specs.Clock.{runOut}
 use Rattle.clock.specs.Counters.{sameNumber, numberIn}
-use Rattle.judging.specs.Rules.{isFailure, permittedAnswer}
+use Rattle.masterrules.specs.Rules.{isFailure, permittedAnswer}
 use Rattle.judging.specs.Judging.{Judged, answeredBy, takenOf, unlessBad, judgeOf}
 use Rattle.judging.specs.Judging as j
 use Rattle.demand3.specs.Theorems.{Tells, Telling}

@@ -1,43 +1,23 @@
 -- The desk's answers as rows say them (docs/SCENES.md). Assumes nothing.
 use mathlib.Core.Bool.{Bool, cond}
-use mathlib.Core.List.{List, [], _∷_, _++_}
+use mathlib.Core.List.{List, [], _++_}
 use Prim.Native.Nat.{ℕ}
 use Rattle.laws.specs.Text.{codes}
-use Rattle.records.specs.declared.records.Record.{Record}
 use Rattle.records.specs.Refusals.{No}
 use Rattle.replying.specs.Replying.{Origin}
-use Rattle.replying.specs.Replying as o
 use Rattle.desk.specs.Answers.{Done}
 use Rattle.desk.specs.Answers as d
 use Rattle.deskhearing.specs.Answers.{Told}
 use Rattle.deskhearing.specs.Answers as t
-use Rattle.items.specs.Items.{refusalText, recordText}
-use Rattle.items.specs.Amounts.{bytesText}
+use Rattle.items.specs.Items.{refusalText}
+use Rattle.amounts.specs.Amounts.{bytesText}
+use Rattle.sourcetellings.specs.Sources.{originText}
 
 -- a call that hears nothing is done, or notes the line lost, or refuses
 abbrev pub doneText : Done → List ℕ
 doneText d.done = codes "done"
 doneText d.lost = codes "line noted lost"
 doneText (d.refused x) = refusalText x
-
--- where an answer comes from
-unfoldable pub keyText : ℕ → List ℕ
-keyText key = codes "key " ++ (key ∷ [])
-
-unfoldable pub panelText : Record → List ℕ
-panelText rec = codes "panel " ++ recordText rec
-
-unfoldable pub contentsText : No → List ℕ
-contentsText x = codes "contents " ++ refusalText x
-
-abbrev pub originText : Origin → List ℕ
-originText o.requested = codes "requested"
-originText o.queue = codes "queue"
-originText (o.key position) = keyText position
-originText (o.panel value rec) = panelText rec
-originText (o.contents value x) = contentsText x
-originText (o.notMaster value) = codes "not the master's"
-originText (o.nothingSet value) = codes "nothing set"
 
 -- before what was heard, where this call noted the line lost
 unfoldable pub notedText : Bool → List ℕ

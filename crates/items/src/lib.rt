@@ -1,3 +1,2 @@
-// Refusals, values, records and amounts as rows say them (rule P9).
-pub mod amounts;
+// Refusals, values and records as rows say them (rule P9).
 pub mod items;

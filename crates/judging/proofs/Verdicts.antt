@@ -12,7 +12,7 @@ use Rattle.reading.specs.Answers.{Answer, accepted}
 use Rattle.framing.specs.Frame.{frameChecks}
 use Rattle.reading.specs.Reading.{readingOf}
 use Rattle.clock.specs.Counters.{sameNumber, numberIn}
-use Rattle.judging.specs.Rules.{isFailure, permittedAnswer}
+use Rattle.masterrules.specs.Rules.{isFailure, permittedAnswer}
 use Rattle.judging.specs.Judging.{Judged, otherNumber, failed, answered, otherKind, answeredBy, takenOf, judgeOf}
 
 module _ (line sent : ℕ) (rec : Record) (number : ℕ) where

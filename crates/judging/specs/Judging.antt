@@ -13,7 +13,7 @@ use Rattle.reading.specs.Answers as w
 use Rattle.framing.specs.Frame.{frameChecks}
 use Rattle.reading.specs.Reading.{readingOf}
 use Rattle.clock.specs.Counters.{sameNumber, numberIn}
-use Rattle.judging.specs.Rules.{isFailure, permittedAnswer}
+use Rattle.masterrules.specs.Rules.{isFailure, permittedAnswer}
 use Rattle.judging.specs.declared.judging.Verdict as v
 
 -- refused 1 to 7; its number is another; a failed sending; a permitted answer with its record; an answer of another kind as it was read

@@ -2,13 +2,13 @@
 ghost use mathlib.Core.Path.{_≡_};
 ghost use Rattle.reading.specs.Answers.{answerOf};
 ghost use Rattle.judging.specs.Judging.{judgedOf, answeredBy, takenOf, judgeOf};
-use crate::rules::is_failure;
-use crate::rules::permitted_answer;
 use characters::slices::byte_at;
 use clock::counters::ToSend;
 use clock::counters::number_in;
 use framing::answers::Check;
 use framing::frame::frame_check;
+use masterrules::rules::is_failure;
+use masterrules::rules::permitted_answer;
 use reading::answers::Reading;
 use reading::reading::read;
 use records::records::Record;

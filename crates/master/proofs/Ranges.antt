@@ -20,7 +20,7 @@ use Rattle.values.specs.Values.{permitsRecord, textOf, narrow, numberWidth, per
 use Rattle.framing.specs.Answers.{good, fails}
 use Rattle.clock.specs.Counters.{inRange}
 use Rattle.characters.specs.Marks.{longest}
-use Rattle.judging.specs.Rules.{pollOf}
+use Rattle.masterrules.specs.Rules.{pollOf}
 use Rattle.master.specs.declared.state.Master.{Master}
 use Rattle.master.specs.Answers.{refused, nothing}
 use Rattle.master.specs.State.{isFree, sendable, inRanges, callFault, withLine, started, unstarted, startOf}

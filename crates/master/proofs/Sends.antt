@@ -16,7 +16,7 @@ use Rattle.writing.specs.Writing.{sendOf}
 use Rattle.roundtrips.proofs.Trips.{sent-whole}
 use Rattle.clock.specs.Clock.{runOut}
 use Rattle.characters.specs.Marks.{longest}
-use Rattle.judging.specs.Rules.{pollOf}
+use Rattle.masterrules.specs.Rules.{pollOf}
 use Rattle.master.specs.declared.state.Master.{Master}
 use Rattle.master.specs.declared.state.Step.{Step}
 use Rattle.master.specs.Answers.{Which, offered, again, poll, Ground, silence, toldOf, nothing, sent, givenUp}

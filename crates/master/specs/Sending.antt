@@ -13,7 +13,7 @@ use Rattle.values.specs.Values.{permitsRecord}
 use Rattle.framing.specs.Answers.{Fault, good, fails}
 use Rattle.writing.specs.Writing.{telegramOf, sentOf}
 use Rattle.clock.specs.Clock.{runOut}
-use Rattle.judging.specs.Rules.{pollOf}
+use Rattle.masterrules.specs.Rules.{pollOf}
 use Rattle.master.specs.declared.state.Master.{Master}
 use Rattle.master.specs.Answers.{Which, offered, again, poll, Ground, silence, Told, refused, nothing, sent, givenUp}
 use Rattle.master.specs.State.{isFree, callFault, afterSending, withLine, givenUpState}

@@ -15,7 +15,7 @@ use Rattle.masterrows.specs.declared.calls.Field.{Field}
 use Rattle.masterrows.specs.declared.calls.Call as c
 use Rattle.masterrows.specs.Calls.{callOf}
 use Rattle.masterrows.specs.Altering.{alteredOf}
-use Rattle.masterrows.specs.Printing.{didText, alteredText, wholeText}
+use Rattle.masterprints.specs.Printing.{didText, alteredText, wholeText}
 
 -- the master behind a row, and the text that the row prints
 abbrev pub Row : Type 0

@@ -1,4 +1,3 @@
 pub mod Calls
 pub mod Altering
-pub mod Printing
 pub mod Behind

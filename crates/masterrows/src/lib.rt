@@ -2,4 +2,3 @@
 pub mod altering;
 pub mod behind;
 pub mod calls;
-pub mod printing;

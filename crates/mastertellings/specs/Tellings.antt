@@ -8,7 +8,7 @@ use Rattle.reading.specs.Answers as r
 use Rattle.master.specs.Answers.{Which, Ground, Why, Told}
 use Rattle.master.specs.Answers as t
 use Rattle.items.specs.Items.{refusalText, recordText}
-use Rattle.items.specs.Amounts.{bytesText, countSaid}
+use Rattle.amounts.specs.Amounts.{bytesText, countSaid}
 
 -- which sending it is, its count and its bytes
 abbrev pub whichText : Which → List ℕ

@@ -17,7 +17,7 @@ use Rattle.reading.specs.Reading.{readingOf}
 use Rattle.clock.specs.Clock.{runOut}
 use Rattle.clock.specs.Counters.{sameNumber, numberIn}
 use Rattle.characters.specs.Marks.{longest}
-use Rattle.judging.specs.Rules.{pollOf, isFailure, permittedAnswer}
+use Rattle.masterrules.specs.Rules.{pollOf, isFailure, permittedAnswer}
 use Rattle.judging.specs.Judging.{Judged, answeredBy, takenOf, unlessBad, judgeOf}
 use Rattle.judging.specs.Judging as j
 use Rattle.master.specs.declared.state.Master.{Master}

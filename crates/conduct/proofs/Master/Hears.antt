@@ -18,7 +18,7 @@ use Rattle.roundtrips.proofs.Faults.{faultless-good}
 use Rattle.roundtrips.proofs.Frames.{framed-faultless}
 use Rattle.clock.specs.Counters.{numberIn}
 use Rattle.deciding.proofs.Numbers.{good-checked}
-use Rattle.judging.specs.Rules.{isFailure}
+use Rattle.masterrules.specs.Rules.{isFailure}
 use Rattle.judging.specs.Judging.{Judged, takenOf}
 use Rattle.judging.specs.Judging as j
 use Rattle.judging.proofs.Verdicts.{by-failure, by-permitted, by-other, when-bad, when-other, when-taken}

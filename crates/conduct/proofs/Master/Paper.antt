@@ -9,7 +9,7 @@ use Rattle.packets.specs.Packets.{leadOf, isDecimal}
 use Rattle.values.specs.Values.{textOf}
 use Rattle.reading.specs.Field.{dataOf}
 use Rattle.writing.specs.Writing.{telegramOf}
-use Rattle.judging.specs.Rules.{pollOf, answersTo, permittedAnswer}
+use Rattle.masterrules.specs.Rules.{pollOf, answersTo, permittedAnswer}
 use Rattle.conduct.specs.Master.Paper.{EachPoll, EachAnswer, EachTypeListed}
 
 pub each-poll : EachPoll

@@ -29,7 +29,7 @@ use Rattle.reading.specs.Field.{outside, wrongLetter, badValue, valuesIn, missh
 use Rattle.reading.specs.Reading.{recordIn, checks, readingOf}
 use Rattle.writing.specs.Writing.{sentOf}
 use Rattle.clock.specs.Clock.{runOut}
-use Rattle.judging.specs.Rules.{pollOf, isFailure, answersTo, permittedAnswer}
+use Rattle.masterrules.specs.Rules.{pollOf, isFailure, answersTo, permittedAnswer}
 use Rattle.judging.specs.Judging.{answeredBy, judgeOf}
 use Rattle.master.specs.State.{sendable, inRanges, callFault, withLine, givenUpState}
 use Rattle.master.specs.Sending.{t0Limit, t2Limit, sendingOf, failedOf, offerFault, offerOf, pollingOf, waitingOf, tickOf}

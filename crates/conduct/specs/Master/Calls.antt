@@ -3,7 +3,7 @@ use mathlib.Core.Bool.{Bool, true, false}
 use mathlib.Core.List.{List, [], _∷_}
 use Prim.Native.Nat.{ℕ}
 use Rattle.records.specs.declared.records.Record.{Record}
-use Rattle.judging.specs.Rules.{pollOf}
+use Rattle.masterrules.specs.Rules.{pollOf}
 use Rattle.master.specs.declared.state.Master.{Master}
 use Rattle.master.specs.Answers.{Which, poll, Ground, silence, rejected}
 use Rattle.master.specs.Answers as t

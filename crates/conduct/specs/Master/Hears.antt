@@ -15,7 +15,7 @@ use Rattle.reading.specs.Answers as w
 use Rattle.framing.specs.Frame.{frameChecks}
 use Rattle.reading.specs.Reading.{readingOf}
 use Rattle.clock.specs.Counters.{numberIn}
-use Rattle.judging.specs.Rules.{isFailure, permittedAnswer}
+use Rattle.masterrules.specs.Rules.{isFailure, permittedAnswer}
 use Rattle.master.specs.declared.state.Master.{Master}
 use Rattle.master.specs.State.{isFree, inRanges, withLine, answeredState, givenUpState}
 use Rattle.master.specs.Sending.{Behind, sendingOf}

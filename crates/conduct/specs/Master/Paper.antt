@@ -16,7 +16,7 @@ use Rattle.formrows.specs.declared.rows.Form.{Form}
 use Rattle.records.specs.declared.records.Record.{Record}
 use Rattle.records.specs.declared.records.Record.the-variants.{Request, Idling}
 use Rattle.writing.specs.Writing.{telegramOf}
-use Rattle.judging.specs.Rules.{pollOf, permittedAnswer}
+use Rattle.masterrules.specs.Rules.{pollOf, permittedAnswer}
 
 -- the telegram of a text, with LF and CR
 abbrev pub telegram : String → List ℕ

@@ -7,7 +7,7 @@ use Prim.Native.Char.{code}
 use lib.ListN.{length, replicate}
 use Rattle.characters.specs.Marks.{longest}
 use Rattle.records.specs.declared.records.Record.the-variants.{Approved, Train}
-use Rattle.judging.specs.Rules.{pollOf}
+use Rattle.masterrules.specs.Rules.{pollOf}
 use Rattle.master.specs.declared.state.Master.{Master}
 use Rattle.master.specs.State.{isFree, inRanges, started, withLine, givenUpState}
 use Rattle.master.specs.Sending.{Behind, sendingOf, offerOf, tickOf}

@@ -1,0 +1,2 @@
+// Amounts as rows say them (rule P9).
+pub mod amounts;

@@ -1,0 +1,85 @@
+// What a row of the master prints.
+ghost use mathlib.Core.Path.{_≡_};
+ghost use Rattle.text.specs.Putting.{puts};
+ghost use Rattle.master.specs.Answers.{toldOf};
+ghost use Rattle.masterprints.specs.Printing.{numbersText, didText, alteredText, startsText, busyText, wholeText};
+use items::items::put_record;
+use master::answers::Answer;
+use master::state::Master;
+use mastertellings::tellings::put_answer;
+use records::records::Record;
+use scripts::printing::begin;
+use scripts::printing::line;
+use scripts::printing::number;
+use scripts::printing::output;
+use text::putting::put_byte;
+use text::putting::put_text;
+
+// What every row of the master ends with: line, number to send, sending count.
+pub fn put_numbers(out: &mut [u8], at: usize, good: bool, to_send: u8, count: u8) -> usize
+    ensures { λ r. ⌜ (r, now (out .exit)) ≡ puts (numbersText good «to_send» count) at (now (out .entry)) ⌝ }
+{
+    let a = line(out, at, good);
+    let b = number(out, a, b", number ", to_send as u64);
+    let c = number(out, b, b", count ", count as u64);
+    put_byte(out, c, b'\n')
+}
+
+// What a call did, what was sent, and the state's numbers.
+pub fn put_did(
+    out: &mut [u8],
+    row: &[u8],
+    answer: Answer,
+    sent: &[u8],
+    good: bool,
+    to_send: u8,
+    count: u8,
+) -> usize
+    ensures { λ r. ⌜ (r, now (out .exit)) ≡ puts (didText (now (row .entry)) (toldOf answer) (now (sent .entry)) good «to_send» count) 0 (now (out .entry)) ⌝ }
+{
+    let a = begin(out, row);
+    let b = put_answer(out, a, answer);
+    let c = output(out, b, sent);
+    put_numbers(out, c, good, to_send, count)
+}
+
+// An altered state.
+pub fn put_altered(out: &mut [u8], row: &[u8], good: bool, to_send: u8, count: u8) -> usize
+    ensures { λ r. ⌜ (r, now (out .exit)) ≡ puts (alteredText (now (row .entry)) good «to_send» count) 0 (now (out .entry)) ⌝ }
+{
+    let a = begin(out, row);
+    let b = put_text(out, a, b"altered");
+    put_numbers(out, b, good, to_send, count)
+}
+
+// The line, and T0's start.
+fn put_starts(out: &mut [u8], at: usize, of: u8, t0: u32) -> usize
+    ensures { λ r. ⌜ (r, now (out .exit)) ≡ puts (startsText of t0) at (now (out .entry)) ⌝ }
+{
+    let a = number(out, at, b"line ", of as u64);
+    number(out, a, b", T0 ", t0 as u64)
+}
+
+// While it is not free, T2's start and what is sent.
+fn put_busy(out: &mut [u8], at: usize, count: u8, t2: u32, rec: Record) -> usize
+    ensures { λ r. ⌜ (r, now (out .exit)) ≡ puts (busyText count t2 rec) at (now (out .entry)) ⌝ }
+{
+    if count == 0 {
+        return at;
+    }
+    let a = number(out, at, b", T2 ", t2 as u64);
+    let b = put_text(out, a, b", sends ");
+    put_record(out, b, rec)
+}
+
+// The whole state.
+pub fn put_whole(out: &mut [u8], row: &[u8], m: Master) -> usize
+    ensures { λ r. ⌜ (r, now (out .exit)) ≡ puts (wholeText (now (row .entry)) m) 0 (now (out .entry)) ⌝ }
+{
+    let rec = m.rec;
+    let to_send = m.number;
+    let a = begin(out, row);
+    let b = put_starts(out, a, m.line, m.t0);
+    let c = put_busy(out, b, m.count, m.t2, rec);
+    put_numbers(out, c, m.good, to_send.0, m.count)
+}
