@@ -7,7 +7,7 @@ use lib.ListN.{length}
 use Rattle.records.specs.Refusals.{no}
 use Rattle.gathering.specs.Gather.{Cut, atStart}
 use Rattle.gathering.specs.declared.gather.Item.the-variants.{Byte, Hit}
-use Rattle.states.specs.Gatherers.{gathererLength, saveOf, gatherIn}
+use Rattle.gathererstates.specs.Gatherers.{gathererLength, saveOf, gatherIn}
 use Rattle.results.specs.Result.{zeros, refusing}
 use Rattle.results.specs.Telegrams.{cutResult}
 use Rattle.results.specs.Result.{Call}

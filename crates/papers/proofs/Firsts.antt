@@ -26,7 +26,7 @@ use Rattle.reading.specs.Answers.{Answer, accepted, refused}
 use Rattle.framing.specs.Frame.{fieldOf, frameChecks}
 use Rattle.reading.specs.Field.{rowIn, outside, wrongLetter, badValue, misshapen, fieldChecks}
 use Rattle.reading.specs.Reading.{checks, readingOf}
-use Rattle.reading.proofs.Walk.{byte-in, byte-out, letter-right, letter-wrong, value-right, value-wrong}
+use Rattle.datafields.proofs.Walk.{byte-in, byte-out, letter-right, letter-wrong, value-right, value-wrong}
 use Rattle.roundtrips.proofs.Faults.{needs-held, no-fault}
 use Rattle.papers.specs.Order.{FirstCheck}
 use Rattle.papers.specs.Firsts.{AllInside, FirstOutside, NineFirst, filledBy, letterPlace, lengthRight, letterRight, valueRight, EachPacket, FirstPacket, OwnRow}

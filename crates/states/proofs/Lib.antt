@@ -1,5 +1,3 @@
 pub mod Parts
 pub mod Loads
 pub mod Puts
-pub mod GathererBlock
-pub mod InPlace

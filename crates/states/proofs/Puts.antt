@@ -5,9 +5,7 @@ use mathlib.Core.List.{List, [], _∷_, _++_}
 use Prim.Native.Nat.{ℕ}
 use Rattle.text.specs.Putting.{puts}
 use Rattle.text.proofs.Puts.{then}
-use Rattle.gathering.specs.declared.gather.Gatherer.{Gatherer}
-use Rattle.states.specs.Layout.{countByte, flagByte, headBytes}
-use Rattle.states.specs.Gatherers.{gathererBytes}
+use Rattle.states.specs.Layout.{flagByte, headBytes}
 
 -- four texts
 pub four : (s t u v : List ℕ) (at : ℕ) (out : List ℕ) (a : ℕ) (o : List ℕ) (b : ℕ) (p : List ℕ) (c : ℕ) (q : List ℕ) (r : ℕ) (x : List ℕ)
@@ -19,8 +17,3 @@ pub head-put : (line : ℕ) (good : Bool) (flag number more at : ℕ) (out : Lis
     → (r, x) ≡ puts (headBytes line good number more) at out
 head-put line good flag number more at out a o b p c q r x i h g f e =
     rw i at (four (line ∷ []) (flag ∷ []) (number ∷ []) (more ∷ []) at out a o b p c q r x h g f e)
-
-pub gatherer-put : (g : Gatherer) (k at : ℕ) (out : List ℕ) (a : ℕ) (o : List ℕ) (r : ℕ) (x : List ℕ) → k ≡ countByte (g .len)
-    → (a, o) ≡ puts (k ∷ []) at out → (r, x) ≡ puts (g .bytes) a o → (r, x) ≡ puts (gathererBytes g) at out
-unfolding gathererBytes
-gatherer-put g k at out a o r x i h e = rw i at (then (k ∷ []) (g .bytes) at out a r o x h e)

@@ -1,3 +1,2 @@
-// What the blocks of the states share, and the gatherer's block (rules F7, F8).
-pub mod gatherers;
+// What the blocks of the states share (rules F7, F8).
 pub mod layout;

@@ -1,8 +1,8 @@
 -- `put_gatherer` puts the count and the bytes. Assumes nothing.
-use Rattle.states.proofs.Puts.{gatherer-put}
+use Rattle.gathererstates.proofs.Put.{gatherer-put}
 use borrow.Author.Needs.{needs}
-use Rattle.states.proofs.gatherers.put_gatherer.Statement.{statement}
-use Rattle.states.proofs.gatherers.put_gatherer.Tie as tie
+use Rattle.gathererstates.proofs.gatherers.put_gatherer.Statement.{statement}
+use Rattle.gathererstates.proofs.gatherers.put_gatherer.Tie as tie
 
 count-byte-requires : tie.Need-count-byte-requires
 count-byte-requires c κs = search needs

@@ -1,11 +1,11 @@
 -- `save` fills a block of just its length. Assumes nothing.
 use denote.Ref.{now}
 use Rattle.blocks.proofs.Laid.{fill, unfilled}
-use Rattle.states.specs.Gatherers.{gathererLength, gathererBytes}
-use Rattle.states.proofs.GathererBlock.{gatherer-length}
+use Rattle.gathererstates.specs.Gatherers.{gathererLength, gathererBytes}
+use Rattle.gathererstates.proofs.GathererBlock.{gatherer-length}
 use borrow.Author.Needs.{needs}
-use Rattle.states.proofs.gatherers.save.Statement.{statement}
-use Rattle.states.proofs.gatherers.save.Tie as tie
+use Rattle.gathererstates.proofs.gatherers.save.Statement.{statement}
+use Rattle.gathererstates.proofs.gatherers.save.Tie as tie
 
 put-gatherer-requires : tie.Need-put-gatherer-requires
 put-gatherer-requires c κs = search needs

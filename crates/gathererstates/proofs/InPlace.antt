@@ -23,11 +23,11 @@ use Rattle.gathering.specs.declared.gather.Item.the-variants.{Byte, Hit}
 use Rattle.blocks.specs.Layout.{stretch}
 use Rattle.blocks.proofs.Laid.{filled-with}
 use Rattle.blocks.proofs.Found.{pad-length}
 use Rattle.states.specs.States.{loaded}
-use Rattle.states.specs.Gatherers.{gathererBytes, gathererLength, gathererAt, blank, loadOf, saveOf, gathererOf, stepped, gatherIn, countIn, holdingIn, EveryBlock}
+use Rattle.gathererstates.specs.Gatherers.{gathererBytes, gathererLength, gathererAt, blank, loadOf, saveOf, gathererOf, stepped, gatherIn, countIn, holdingIn, EveryBlock}
 use Rattle.states.proofs.Parts.{small, pad-whole}
 use Rattle.states.proofs.Loads.{loads}
-use Rattle.states.proofs.GathererBlock.{gatherer-length}
+use Rattle.gathererstates.proofs.GathererBlock.{gatherer-length}
 
 pub every-block : EveryBlock
 every-block n bytes h l =

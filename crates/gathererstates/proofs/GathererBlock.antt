@@ -8,9 +8,9 @@ use borrow.Author.Tests.{leb-false}
 use Rattle.laws.proofs.Truths.{not-true}
 use Rattle.characters.specs.Marks.{longest}
 use Rattle.gathering.specs.declared.gather.Gatherer.{Gatherer}
-use Rattle.states.specs.Gatherers.{gathererBytes, gathererLength, gathererAt, blank, inRanges, Typed, GathererBack, OtherGatherers, OneGatherer}
+use Rattle.gathererstates.specs.Gatherers.{gathererBytes, gathererLength, gathererAt, blank, inRanges, Typed, GathererBack, OtherGatherers, OneGatherer}
 use Rattle.states.proofs.Parts.{small, pad-whole}
 use Rattle.states.proofs.Loads.{loads-saved, other, one}
 
 pub gatherer-length : (g : Gatherer) → length (g .bytes) ≡ longest → length (gathererBytes g) ≡ gathererLength
 unfolding gathererBytes

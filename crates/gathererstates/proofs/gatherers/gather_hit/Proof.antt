@@ -3,10 +3,10 @@ use mathlib.Core.Path.{refl}
 use native.Mathlib.Omega.{arith}
 use denote.Ref.{now}
 use Rattle.gathering.specs.declared.gather.Item.the-variants.{Hit}
-use Rattle.states.proofs.InPlace.{whole, hit-in, refused-in}
+use Rattle.gathererstates.proofs.InPlace.{whole, hit-in, refused-in}
 use borrow.Author.Needs.{needs}
-use Rattle.states.proofs.gatherers.gather_hit.Statement.{statement}
-use Rattle.states.proofs.gatherers.gather_hit.Tie as tie
+use Rattle.gathererstates.proofs.gatherers.gather_hit.Statement.{statement}
+use Rattle.gathererstates.proofs.gatherers.gather_hit.Tie as tie
 
 count-in-requires : tie.Need-count-in-requires
 count-in-requires c κs = search needs

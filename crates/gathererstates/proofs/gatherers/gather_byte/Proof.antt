@@ -4,10 +4,10 @@ use native.Mathlib.Omega.{arith}
 use denote.Ref.{now}
 use Rattle.turns.proofs.Cases.{joins-at, ends-at}
 use Rattle.gathering.specs.declared.gather.Item.the-variants.{Byte}
-use Rattle.states.proofs.InPlace.{whole, joins-in, ends-in, drops-in, refused-in}
+use Rattle.gathererstates.proofs.InPlace.{whole, joins-in, ends-in, drops-in, refused-in}
 use borrow.Author.Needs.{needs}
-use Rattle.states.proofs.gatherers.gather_byte.Statement.{statement}
-use Rattle.states.proofs.gatherers.gather_byte.Tie as tie
+use Rattle.gathererstates.proofs.gatherers.gather_byte.Statement.{statement}
+use Rattle.gathererstates.proofs.gatherers.gather_byte.Tie as tie
 
 count-in-requires : tie.Need-count-in-requires
 count-in-requires c κs = search needs

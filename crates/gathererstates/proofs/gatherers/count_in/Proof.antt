@@ -1,9 +1,9 @@
 -- `count_in` takes the count of a block of the right length. Assumes nothing.
 use borrow.Author.Tests.{eq-eqb, ne-eqb}
-use Rattle.states.specs.Gatherers.{countIn}
+use Rattle.gathererstates.specs.Gatherers.{countIn}
 use borrow.Author.Needs.{needs}
-use Rattle.states.proofs.gatherers.count_in.Statement.{statement}
-use Rattle.states.proofs.gatherers.count_in.Tie as tie
+use Rattle.gathererstates.proofs.gatherers.count_in.Statement.{statement}
+use Rattle.gathererstates.proofs.gatherers.count_in.Tie as tie
 
 byte-at-requires : tie.Need-byte-at-requires
 byte-at-requires c κs = search needs
