@@ -4,7 +4,7 @@ use mathlib.Core.Bool.{cond}
 use lib.Dec.{eqb}
 use Rattle.records.specs.Refusals.{No, refusalOf, OneRefusal}
 use Rattle.records.specs.declared.refusals.Refusal.{Refusal}
-use Rattle.records.specs.declared.refusals.Refusal.the-variants.{Short, Long, NoStart, Count, NoEnd, Checksum, Number, Kind, Character, Form, Value, NotSent, Range, NoRoom, State, Busy, Full}
+use Rattle.records.specs.declared.refusals.Refusal.the-variants.{Short, Long, NoStart, Count, NoEnd, Checksum, Number, Kind, Character, Form, Value, NotSent, Range, NoRoom, State, Busy, Full, Mark, Length, CutOff}
 
 -- the refusal of a number and place
 abbrev pub backOf : No → Refusal
@@ -24,7 +24,10 @@ backOf x =
     (cond (eqb (x .number) 13) Range
     (cond (eqb (x .number) 14) NoRoom
     (cond (eqb (x .number) 15) State
-    (cond (eqb (x .number) 16) Busy Full)))))))))))))))
+    (cond (eqb (x .number) 16) Busy
+    (cond (eqb (x .number) 17) Full
+    (cond (eqb (x .number) 18) (Mark (x .place))
+    (cond (eqb (x .number) 19) (Length (x .place)) (CutOff (x .place))))))))))))))))))))
 
 -- each refusal comes back from its number and place
 pub refusal-back : (x : Refusal) → backOf (refusalOf x) ≡ x
@@ -45,6 +48,9 @@ refusal-back NoRoom = refl
 refusal-back State = refl
 refusal-back Busy = refl
 refusal-back Full = refl
+refusal-back (Mark place) = refl
+refusal-back (Length place) = refl
+refusal-back (CutOff place) = refl
 
 -- so two refusals of one number and place are one
 pub one-refusal : OneRefusal

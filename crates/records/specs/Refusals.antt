@@ -1,8 +1,8 @@
--- A refusal in the paper's values: its number and its place (rules R1 to R17). Assumes nothing.
+-- A refusal in the paper's values: its number and its place (rules R1 to R20). Assumes nothing.
 use mathlib.Core.Path.{_≡_}
 use Prim.Native.Nat.{ℕ}
 use Rattle.records.specs.declared.refusals.Refusal.{Refusal}
-use Rattle.records.specs.declared.refusals.Refusal.the-variants.{Short, Long, NoStart, Count, NoEnd, Checksum, Number, Kind, Character, Form, Value, NotSent, Range, NoRoom, State, Busy, Full}
+use Rattle.records.specs.declared.refusals.Refusal.the-variants.{Short, Long, NoStart, Count, NoEnd, Checksum, Number, Kind, Character, Form, Value, NotSent, Range, NoRoom, State, Busy, Full, Mark, Length, CutOff}
 
 -- what every answer of every definition holds of a refusal
 pub record No : Type 0 where
@@ -32,6 +32,9 @@ refusalOf NoRoom = no 14 0
 refusalOf State = no 15 0
 refusalOf Busy = no 16 0
 refusalOf Full = no 17 0
+refusalOf (Mark place) = no 18 place
+refusalOf (Length place) = no 19 place
+refusalOf (CutOff place) = no 20 place
 
 -- number and place tell the refusals apart
 abbrev pub OneRefusal : Type 0

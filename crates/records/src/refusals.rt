@@ -1,4 +1,4 @@
-// The refusals (rules R1 to R17), a case each; a case holds its place where the paper does not fix it.
+// The refusals (rules R1 to R20), a case each; a case holds its place where the paper does not fix it.
 ghost use mathlib.Core.Path.{_≡_};
 ghost use Rattle.records.specs.Refusals.{refusalOf};
 
@@ -20,6 +20,9 @@ pub enum Refusal {
     State,
     Busy,
     Full,
+    Mark(usize),
+    Length(usize),
+    CutOff(usize),
 }
 
 // The paper's number of a refusal.
@@ -44,6 +47,9 @@ pub fn number_of(refusal: Refusal) -> u8
         Refusal::State => 15,
         Refusal::Busy => 16,
         Refusal::Full => 17,
+        Refusal::Mark(_) => 18,
+        Refusal::Length(_) => 19,
+        Refusal::CutOff(_) => 20,
     }
 }
 
@@ -69,5 +75,8 @@ pub fn place_of(refusal: Refusal) -> usize
         Refusal::State => 0,
         Refusal::Busy => 0,
         Refusal::Full => 0,
+        Refusal::Mark(place) => place,
+        Refusal::Length(place) => place,
+        Refusal::CutOff(place) => place,
     }
 }
