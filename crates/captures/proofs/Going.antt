@@ -9,11 +9,12 @@ use lib.Seq.{take-at, drop-at, take-add, length-take-le}
 use Rattle.characters.specs.Marks.{unfinished}
 use Rattle.reading.specs.Answers.{written}
 use Rattle.text.specs.Putting.{placed}
-use Rattle.listings.specs.Lines.{lineRoom}
+use Rattle.listings.specs.Lines.{wrapped, lineRoom}
 use Rattle.pieces.specs.declared.pieces.Listed.{Listed}
 use Rattle.lister.specs.declared.state.Lister.{Lister}
 use Rattle.lister.specs.declared.state.Wants.the-variants.{Read, Again, End}
-use Rattle.pieces.specs.Pieces.{spansOf, wrapped, linesIn, linesOf, keptFrom, tailOf, tailPut}
+use Rattle.pieces.specs.Pieces.{spansOf, linesIn, linesOf, keptFrom}
+use Rattle.tails.specs.Tails.{tailOf, tailPut}
 use Rattle.pieces.specs.Whole.{linesLeft}
 use Rattle.captures.specs.Turn.{Turned, again, behind, carried, carriedOn}
 use Rattle.captures.specs.Runs.{frontOf}

@@ -25,7 +25,7 @@ use Rattle.items.specs.Items.{refusalText}
 use Rattle.listings.specs.Lines.{lineText}
 use Rattle.captures.specs.Sample.{PaperListing, NoInput, OtherByte, DigitAlone}
 use Rattle.pieces.specs.Pieces.{spansOn, spansOf, lineAt, linesIn, linesOf}
-use Rattle.lister.specs.Lister.{lineNamed}
+use Rattle.lister.specs.Line.{lineNamed}
 use Rattle.captures.specs.Captures.{listingOf}
 
 pub paper-listing : PaperListing

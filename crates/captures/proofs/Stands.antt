@@ -24,8 +24,9 @@ use Rattle.lister.specs.declared.state.Task.the-variants as task
 use Rattle.lister.specs.declared.state.Wants.{Wants}
 use Rattle.lister.specs.declared.state.Wants.the-variants.{Read, Again, End}
 use Rattle.pieces.specs.Pieces.{linesOf}
-use Rattle.captures.specs.Captures.{badLine, listingOf}
-use Rattle.lister.specs.Lister.{atFirst, placeFits, listFault, lineNamed, lineFor, lineTask, readTask, taskFor, ended}
+use Rattle.captures.specs.Captures.{listingOf}
+use Rattle.lister.specs.Line.{badLine, lineNamed}
+use Rattle.lister.specs.Lister.{atFirst, placeFits, listFault, lineFor, lineTask, readTask, taskFor, ended}
 use Rattle.captures.specs.Turn.{Turned, unnamed, beside, carriedOn, doneBy, wantedOf}
 use Rattle.captures.specs.Runs.{Stand, Given, begun, bufferOf, frontOf, standBehind, MayTurn}
 use Rattle.pieces.proofs.Shifts.{lines-further}

@@ -11,8 +11,9 @@ use Rattle.text.specs.Putting.{puts}
 use Rattle.pieces.specs.declared.pieces.Listed.{Listed}
 use Rattle.lister.specs.declared.state.Lister.{Lister}
 use Rattle.lister.specs.declared.state.Task.{Task}
-use Rattle.pieces.specs.Pieces.{listPart, keptFrom, tailPut}
-use Rattle.captures.specs.Captures.{badLine}
+use Rattle.pieces.specs.Pieces.{listPart, keptFrom}
+use Rattle.tails.specs.Tails.{tailPut}
+use Rattle.lister.specs.Line.{badLine}
 use Rattle.lister.specs.Lister.{listFault, taskFor, ended}
 use Rattle.captures.specs.Turn.{Turned, again, behind, unnamed, beside, carried, carriedOn, doneBy, wantedOf, listOf}
 

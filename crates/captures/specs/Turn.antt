@@ -7,14 +7,16 @@ use Rattle.framing.specs.Answers.{Fault, good, fails}
 use Rattle.reading.specs.Answers.{Outcome, written, refused}
 use Rattle.text.specs.Putting.{puts}
 use Rattle.pieces.specs.declared.pieces.Listed.{Listed}
-use Rattle.pieces.specs.Pieces.{wrapped, listPart, keptFrom, tailPut}
+use Rattle.listings.specs.Lines.{wrapped}
+use Rattle.pieces.specs.Pieces.{listPart, keptFrom}
+use Rattle.tails.specs.Tails.{tailPut}
 use Rattle.lister.specs.declared.state.Lister.{Lister}
 use Rattle.lister.specs.declared.state.Task.{Task}
 use Rattle.lister.specs.declared.state.Task.the-variants.{Lists, Unnamed, Over}
 use Rattle.lister.specs.declared.state.Wants.{Wants}
 use Rattle.lister.specs.declared.state.Wants.the-variants.{Read, Again}
 use Rattle.lister.specs.Lister.{listFault, taskFor, ended}
-use Rattle.captures.specs.Captures.{badLine}
+use Rattle.lister.specs.Line.{badLine}
 
 -- the state behind a turn, its answer, the buffer and the output
 abbrev pub Turned : Type 0

@@ -1,31 +1,24 @@
 // A turn of a listing: what was read is listed, and what the next turn needs is kept (rules P2, P3, P5, P10).
 ghost use mathlib.Core.Path.{_≡_};
 ghost use Rattle.reading.specs.Answers.{outcomeOf};
-ghost use Rattle.captures.specs.Captures.{badLine};
 ghost use Rattle.captures.specs.Turn.{unnamed, carriedOn, listOf};
 use characters::slices::less;
 use characters::slices::part;
 use framing::answers::Check;
+use lister::line::bad_line;
 use lister::state::Lister;
 use lister::state::Task;
 use lister::state::Wants;
-use pieces::pieces::keep_tail;
 use pieces::pieces::kept_from;
 use pieces::pieces::list_part;
 use reading::answers::Writing;
+use tails::tails::keep_tail;
 use text::putting::put_text;
 
 // The state behind a turn, and how many bytes of the output are to be written, or its refusal.
 pub struct Step {
     pub lister: Lister,
     pub answer: Writing,
-}
-
-// What a capture of no line prints.
-pub fn bad_line() -> [u8; 8]
-    ensures { λ r. ⌜ r ≡ badLine ⌝ }
-{
-    [b'n', b'o', b' ', b'1', b'5', b' ', b'0', b'\n']
 }
 
 // No input, or another first byte: `no 15 0`, and nothing else.

@@ -1,6 +1,5 @@
 -- The state of a listing between two turns, what refuses a turn, and what a turn does (rules P1 to P5, P10). Assumes nothing.
 use Prim.Native.Nat.{ℕ, _-_, _^_}
-use Prim.Native.Char.{code}
 use mathlib.Core.Bool.{Bool, cond}
 use mathlib.Core.List.{List}
 use lib.Dec.{ltb, leb, eqb}
@@ -11,6 +10,7 @@ use Rattle.lines.specs.Lines.{isLine}
 use Rattle.records.specs.Refusals.{no}
 use Rattle.framing.specs.Answers.{Fault, good, fails}
 use Rattle.listings.specs.Lines.{lineRoom}
+use Rattle.lister.specs.Line.{lineNamed}
 use Rattle.lister.specs.declared.state.Lister.{Lister}
 use Rattle.lister.specs.declared.state.Task.{Task}
 use Rattle.lister.specs.declared.state.Task.the-variants.{Lists, Unnamed, Over}
@@ -32,10 +32,6 @@ inRanges m len got = both (placeFits m) (both (leb (m .held) len) (leb got (len 
 -- 15 where the state is out of its ranges; then 14 where the output has no room for a line, or the buffer none for a byte behind an unfinished telegram
 unfoldable pub listFault : Lister → ℕ → ℕ → ℕ → Fault
 listFault m len got room = cond (inRanges m len got) (cond (either (ltb room lineRoom) (ltb len longest)) (fails (no 14 0)) good) (fails (no 15 0))
-
--- the line that a capture's first byte names, 0 where it names none
-unfoldable pub lineNamed : ℕ → ℕ
-lineNamed digit = cond (isLine (digit - code "0")) (digit - code "0") 0
 
 -- the line: the state's, or the one that the first byte names; 0 where that names none or there is no byte
 unfoldable pub lineFor : Lister → List ℕ → ℕ

@@ -1,2 +1,3 @@
 // The state of a listing between two turns.
+pub mod line;
 pub mod state;

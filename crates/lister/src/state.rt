@@ -1,7 +1,8 @@
 // The state of a listing between two turns, what refuses a turn, and what a turn does (rules P1 to P5, P10).
 ghost use mathlib.Core.Path.{_≡_};
 ghost use Rattle.framing.specs.Answers.{faultOf};
-ghost use Rattle.lister.specs.Lister.{atFirst, placeFits, listFault, lineNamed, lineFor, lineTask, readTask, taskFor, ended};
+ghost use Rattle.lister.specs.Lister.{atFirst, placeFits, listFault, lineFor, lineTask, readTask, taskFor, ended};
+use crate::line::line_named;
 use characters::marks::LONGEST;
 use characters::slices::byte_at;
 use framing::answers::Check;
@@ -32,17 +33,6 @@ pub enum Task {
     Lists(u8),
     Unnamed,
     Over,
-}
-
-// The line that a capture's first byte names, 0 where it names none.
-pub fn line_named(digit: u8) -> u8
-    ensures { λ r. ⌜ r ≡ lineNamed digit ⌝ }
-{
-    if digit < b'0' {
-        return 0;
-    }
-    let line = digit - b'0';
-    if is_line(line) { line } else { 0 }
 }
 
 // What a turn does on a line.

@@ -14,8 +14,9 @@ use Rattle.searching.specs.declared.search.Span.the-variants.{Found, Nothing}
 use Rattle.searching.specs.Search.{spanOf}
 use Rattle.pieces.specs.declared.pieces.Listed.{Listed}
 use Rattle.text.specs.Putting.{placed}
-use Rattle.listings.specs.Lines.{lineText, lineRoom}
-use Rattle.pieces.specs.Pieces.{spanning, spansOf, wrapped, lineAt, linesIn, linesOf, stopped, listedIn, listPart}
+use Rattle.listings.proofs.Puts.{put-length, put-take, put-drop}
+use Rattle.listings.specs.Lines.{wrapped, lineText, lineRoom}
+use Rattle.pieces.specs.Pieces.{spanning, spansOf, lineAt, linesIn, linesOf, stopped, listedIn, listPart}
 use Rattle.pieces.proofs.Spans.{found-within, spans-step}
 use Rattle.pieces.specs.Whole.{lastEnd, nextOrdinal}
 
@@ -31,29 +32,6 @@ pub record Fills (line base : ℕ) (s : List ℕ) (ps : List (ℕ × ℕ)) (plac
   pub full : r .done ≡ false → length x - r .filled < lineRoom
   pub some : r .done ≡ false → lineRoom ≤ length out - filled → filled < r .filled
   pub done : r .done ≡ true → spansOf s (r .next) ≡ []
-
--- a text put into an output
-module _ (t out : List ℕ) (at : ℕ) (h : at ≤ length out) where
-  put-length : length (placed t at out .1) ≡ at + length t + (length out - (at + length t))
-  unfolding placed
-  put-length = omega (arith, length-append (take at out) (t ++ drop (at + length t) out), length-append t (drop (at + length t) out), length-take-le at out h, length-drop (at + length t) out)
-
-  front : length (take at out ++ t) ≡ at + length t
-  front = omega (arith, length-append (take at out) t, length-take-le at out h)
-
-  split : placed t at out .1 ≡ (take at out ++ t) ++ drop (at + length t) out
-  unfolding placed
-  split = sym (append-assoc (take at out) t (drop (at + length t) out))
-
-  put-take : take (at + length t) (placed t at out .1) ≡ take at out ++ t
-  put-take = rw split (take-at (take at out ++ t) (drop (at + length t) out) (at + length t) front)
-
-  put-drop : (n : ℕ) → at + length t ≤ n → drop n (placed t at out .1) ≡ drop n out
-  put-drop n g =
-      let k : at + length t + (n - (at + length t)) ≡ n = omega arith in
-      let d : drop (at + length t) (placed t at out .1) ≡ drop (at + length t) out = rw split (drop-at (take at out ++ t) (drop (at + length t) out) (at + length t) front) in
-      ap (λ (i : ℕ). drop i (placed t at out .1)) (sym k) ∙ sym (drop-drop (n - (at + length t)) (at + length t) (placed t at out .1))
-      ∙ ap (drop (n - (at + length t))) d ∙ drop-drop (n - (at + length t)) (at + length t) out ∙ ap (λ (i : ℕ). drop i out) k
 
 -- a line is not empty
 not-empty : (line ordinal base : ℕ) (s : List ℕ) (p : ℕ × ℕ) → 0 < length (lineAt line ordinal base s p)

@@ -1,4 +1,3 @@
-pub mod Tails
 pub mod Spans
 pub mod Listings
 pub mod Shifts

@@ -19,8 +19,8 @@ use Rattle.searching.specs.declared.search.Span.{Span}
 use Rattle.searching.specs.declared.search.Span.the-variants.{Found, Nothing}
 use Rattle.searching.specs.Search.{spanOf, partOf}
 use Rattle.text.specs.Putting.{placed}
-use Rattle.listings.specs.Lines.{lineRoom, putting, linePut}
-use Rattle.pieces.specs.Pieces.{spansOf, wrapped, lineAt, nextFor, nextAt, nextLineOf, stopped, listedIn}
+use Rattle.listings.specs.Lines.{wrapped, lineRoom, putting, linePut}
+use Rattle.pieces.specs.Pieces.{spansOf, lineAt, nextFor, nextAt, nextLineOf, stopped, listedIn}
 use Rattle.pieces.proofs.Spans.{found-within, spans-step}
 use Rattle.pieces.specs.declared.pieces.NextLine as next
 

@@ -5,7 +5,8 @@ use Prim.Native.Nat.{ℕ, _+_, _≤_}
 use native.Mathlib.Omega.{arith}
 use lib.ListN.{length, drop, length-append, length-drop}
 use Rattle.characters.specs.Marks.{unfinished}
-use Rattle.pieces.specs.Pieces.{spansOn, spansOf, wrapped, linesIn, linesOf, keptFrom}
+use Rattle.listings.specs.Lines.{wrapped}
+use Rattle.pieces.specs.Pieces.{spansOn, spansOf, linesIn, linesOf, keptFrom}
 use Rattle.pieces.specs.Whole.{nextOrdinal, keptOf, runOf, joined, FewKept, InPieces}
 use Rattle.pieces.proofs.Whole.{in-two}
 

@@ -12,7 +12,8 @@ use Rattle.searching.specs.declared.search.Span.the-variants.{Found, Nothing}
 use Rattle.turns.specs.Turns.{turnOf}
 use Rattle.searching.specs.Search.{onTurn, cutFrom, spanOf}
 use Rattle.turns.proofs.Cases.{joins-at, ends-at}
-use Rattle.pieces.specs.Pieces.{spanning, spansOn, spansOf, wrapped, lineAt, linesIn, linesOf}
+use Rattle.listings.specs.Lines.{wrapped}
+use Rattle.pieces.specs.Pieces.{spanning, spansOn, spansOf, lineAt, linesIn, linesOf}
 use Rattle.pieces.proofs.Spans.{enough}
 
 -- a span, k places further on

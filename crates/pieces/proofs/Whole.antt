@@ -12,7 +12,8 @@ use Rattle.searching.specs.declared.search.Span.the-variants.{Found, Nothing}
 use Rattle.searching.specs.Search.{spanOf}
 use Rattle.searching.specs.Telegrams.{Telegram, FirstTelegram}
 use Rattle.searching.proofs.First.{span-first, search-answers}
-use Rattle.pieces.specs.Pieces.{spanning, spansOf, wrapped, lineAt, linesIn, linesOf, keptFrom}
+use Rattle.listings.specs.Lines.{wrapped}
+use Rattle.pieces.specs.Pieces.{spanning, spansOf, lineAt, linesIn, linesOf, keptFrom}
 use Rattle.pieces.specs.Whole.{linesLeft, InTwo}
 use Rattle.pieces.proofs.Spans.{found-within, none-behind, spans-step}
 use Rattle.pieces.proofs.Shifts.{lines-further}

@@ -1,5 +1,5 @@
 -- The lines of a slice's telegrams (rules P2, P5), and what is kept of a slice for the next piece. Assumes nothing.
-use Prim.Native.Nat.{ℕ, zero, suc, _+_, _-_, _%_, _^_, max}
+use Prim.Native.Nat.{ℕ, zero, suc, _+_, _-_, max}
 use mathlib.Core.Bool.{Bool, true, false, cond}
 use mathlib.Core.List.{List, [], _∷_, _++_}
 use lib.Dec.{leb}
@@ -12,7 +12,7 @@ use Rattle.searching.specs.declared.search.Span.the-variants.{Found, Nothing}
 use Rattle.searching.specs.Search.{spanOf, partOf}
 use Rattle.pieces.specs.declared.pieces.Listed.{Listed}
 use Rattle.text.specs.Putting.{placed}
-use Rattle.listings.specs.Lines.{lineText, lineRoom, putting}
+use Rattle.listings.specs.Lines.{wrapped, lineText, lineRoom, putting}
 use Rattle.pieces.specs.declared.pieces.NextLine as next
 
 -- what a search finds, before what later searches find from its end on
@@ -28,10 +28,6 @@ spansOn (suc n) s place = spanning (spanOf s place) (spansOn n s)
 -- as many searches as there are bytes are enough
 unfoldable pub spansOf : List ℕ → ℕ → List (ℕ × ℕ)
 spansOf s place = spansOn (length s) s place
-
--- ordinals and offsets are 64-bit numbers
-abbrev pub wrapped : ℕ → ℕ
-wrapped n = n % 2 ^ 64
 
 -- the line of the telegram from start to end of s, which begins at an offset of its own
 unfoldable pub lineAt : ℕ → ℕ → ℕ → List ℕ → ℕ × ℕ → List ℕ
@@ -76,10 +72,3 @@ listPart line ordinal base s place out = listedIn line base s (spansOf s place) 
 -- where the bytes begin that are kept for the next piece: behind the last telegram, and an unfinished one has at most 65
 abbrev pub keptFrom : ℕ → ℕ → ℕ
 keptFrom end len = max end (len - unfinished)
-
--- the bytes from a place up to an end, put to the front, with what lies behind them kept
-abbrev pub tailOf : ℕ → ℕ → List ℕ → List ℕ
-tailOf place end s = take (end - place) (drop place s)
-
-unfoldable pub tailPut : ℕ → ℕ → List ℕ → ℕ × List ℕ
-tailPut place end s = placed (tailOf place end s) 0 s

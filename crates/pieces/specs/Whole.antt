@@ -4,7 +4,8 @@ use mathlib.Core.List.{List, [], _∷_, _++_}
 use Prim.Native.Nat.{ℕ, _+_, _≤_}
 use lib.ListN.{length, drop}
 use Rattle.characters.specs.Marks.{unfinished}
-use Rattle.pieces.specs.Pieces.{spansOf, wrapped, linesOf, keptFrom}
+use Rattle.listings.specs.Lines.{wrapped}
+use Rattle.pieces.specs.Pieces.{spansOf, linesOf, keptFrom}
 
 -- the end of the last telegram, and the next ordinal
 abbrev pub lastEnd : ℕ → List (ℕ × ℕ) → ℕ

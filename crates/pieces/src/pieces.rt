@@ -1,10 +1,8 @@
 // The lines of a lent slice, and what is kept of it for the next piece of a capture (rules P2, P5).
 ghost use mathlib.Core.Path.{_≡_};
-ghost use lib.ListN.{length};
-ghost use Rattle.pieces.specs.Pieces.{nextLineOf, listPart, keptFrom, tailOf, tailPut};
+ghost use Rattle.pieces.specs.Pieces.{nextLineOf, listPart, keptFrom};
 use characters::marks::UNFINISHED;
 use characters::slices::less;
-use characters::slices::part;
 use listings::lines::put_line;
 use reading::answers::Writing;
 use reading::reading::read;
@@ -85,24 +83,4 @@ pub fn kept_from(end: usize, len: usize) -> usize
 {
     let last = less(len, UNFINISHED);
     if end < last { last } else { end }
-}
-
-// How many bytes there are from a place up to an end.
-fn tail_len(s: &[u8], from: usize, end: usize) -> usize
-    ensures { λ r. ⌜ r ≡ length (tailOf from end (now (s .entry))) ⌝ }
-{
-    part(s, from, less(end, from)).len()
-}
-
-// The bytes from a place up to an end, moved to the front, and how many they are.
-pub fn keep_tail(buf: &mut [u8], from: usize, end: usize) -> usize
-    ensures { λ r. ⌜ (r, now (buf .exit)) ≡ tailPut from end (now (buf .entry)) ⌝ }
-{
-    let n = tail_len(buf, from, end);
-    let mut i: usize = 0;
-    while i < n {
-        buf[i] = buf[from + i];
-        i = i + 1;
-    }
-    n
 }

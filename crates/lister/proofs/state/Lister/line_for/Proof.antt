@@ -1,7 +1,7 @@
 -- `line_for` looks at the first byte where no line is known. Assumes nothing.
 use mathlib.Core.Path.{ap, _∙_}
 use borrow.Author.Tests.{eq-eqb, ne-eqb}
-use Rattle.lister.specs.Lister.{lineNamed}
+use Rattle.lister.specs.Line.{lineNamed}
 use Rattle.lister.specs.Lister.{lineFor}
 use borrow.Author.Needs.{needs}
 use Rattle.lister.proofs.state.Lister.line_for.Statement.{statement}

@@ -2,8 +2,8 @@
 use mathlib.Core.Path.{ap}
 use lib.ListN.{length}
 use borrow.Author.Needs.{needs}
-use Rattle.pieces.proofs.pieces.tail_len.Statement.{statement}
-use Rattle.pieces.proofs.pieces.tail_len.Tie as tie
+use Rattle.tails.proofs.tails.tail_len.Statement.{statement}
+use Rattle.tails.proofs.tails.tail_len.Tie as tie
 
 less-requires : tie.Need-less-requires
 less-requires c κs = search needs

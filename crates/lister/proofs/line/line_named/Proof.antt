@@ -3,10 +3,10 @@ use mathlib.Core.Path.{_≡_}
 use Prim.Native.Nat.{_-_}
 use Prim.Native.Char.{code}
 use native.Mathlib.Omega.{arith}
-use Rattle.lister.specs.Lister.{lineNamed}
+use Rattle.lister.specs.Line.{lineNamed}
 use borrow.Author.Needs.{needs}
-use Rattle.lister.proofs.state.line_named.Statement.{statement}
-use Rattle.lister.proofs.state.line_named.Tie as tie
+use Rattle.lister.proofs.line.line_named.Statement.{statement}
+use Rattle.lister.proofs.line.line_named.Tie as tie
 
 returns : tie.Need-returns
 unfolding lineNamed

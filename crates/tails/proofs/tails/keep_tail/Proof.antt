@@ -6,10 +6,10 @@ use borrow.Author.Needs.{needs}
 use lib.ListN.{length, length-set}
 use lib.Seq.{paste, paste-zero}
 use denote.Ref.{now}
-use Rattle.pieces.specs.Pieces.{tailOf}
-use Rattle.pieces.proofs.Tails.{tail-within, moved, all-moved}
-use Rattle.pieces.proofs.pieces.keep_tail.Statement.{statement}
-use Rattle.pieces.proofs.pieces.keep_tail.Tie as tie
+use Rattle.tails.specs.Tails.{tailOf}
+use Rattle.tails.proofs.Moved.{tail-within, moved, all-moved}
+use Rattle.tails.proofs.tails.keep_tail.Statement.{statement}
+use Rattle.tails.proofs.tails.keep_tail.Tie as tie
 
 abbrev Inv-loop : tie.InvT-loop
 Inv-loop buf₀ from end n i₀ buf i = (n ≡ length (tailOf from end buf₀)) × (i ≤ n) × (length buf ≡ length buf₀) × (buf ≡ paste buf₀ 0 (tailOf from end buf₀) i)

@@ -8,7 +8,7 @@ use native.Mathlib.Numerals.{add-one}
 use lib.ListN.{length, take, drop, getD, set, length-take, length-drop}
 use lib.Seq.{paste, paste-suc, length-take-le, take-length, getD-take, getD-drop, getD-append-add}
 use Rattle.text.specs.Putting.{placed}
-use Rattle.pieces.specs.Pieces.{tailOf, tailPut}
+use Rattle.tails.specs.Tails.{tailOf, tailPut}
 
 module _ (place end : ℕ) (s : List ℕ) where
   -- the tail lies within its bounds

@@ -1,0 +1,2 @@
+// What is kept of a buffer for its next filling.
+pub mod tails;
