@@ -1,0 +1,9 @@
+pub mod Found
+pub mod Inside
+pub mod Further
+pub mod Steps
+pub mod Pieces
+pub mod Left
+pub mod Again
+pub mod Order
+pub mod Written

@@ -1,0 +1,73 @@
+-- `record_in` tests what is left in the definition's order. Assumes nothing.
+use Rattle.logs.proofs.Found.{behind-mark}
+use Rattle.logs.specs.declared.marks.Marked.{Marked}
+use Rattle.logs.specs.Reader.{Found, recordIn, markedIn}
+use denote.Ref.{now}
+use mathlib.Core.Path.{_≡_, ap, _∙_}
+use Rattle.logs.specs.Reader.{recordIn}
+use Rattle.laws.proofs.Tests.{tests}
+use borrow.Author.Needs.{needs}
+use Rattle.logs.proofs.reader.record_in.Statement.{statement}
+use Rattle.logs.proofs.reader.record_in.Tie as tie
+
+returns : tie.Need-returns
+unfolding recordIn
+returns c = search tests
+
+returns-2 : tie.Need-returns-2
+unfolding recordIn
+returns-2 c = search tests
+
+byte-at-requires : tie.Need-byte-at-requires
+byte-at-requires c κs = search needs
+
+byte-at-requires-2 : tie.Need-byte-at-requires-2
+byte-at-requires-2 c κs = search needs
+
+mark-of-requires : tie.Need-mark-of-requires
+mark-of-requires c κs = search needs
+
+enum-known-mark : tie.Need-enum-known-mark
+enum-known-mark c = search needs
+
+known-requires : tie.Need-known-requires
+known-requires c κs = search needs
+
+enum-told : tie.Need-enum-told
+enum-told c = search needs
+
+returns-3 : tie.Need-returns-3
+returns-3 c =
+    let a = c .before .before .before .before .before .before .before .before .before .before .args in
+    let if1 = c .before .before .before .before .before .before .before .before .if1 in
+    let if2 = c .before .before .before .before .before .before .before .if2 in
+    let byte-at = c .before .before .before .before .before .before .byte-at in
+    let byte-at2 = c .before .before .before .before .before .byte-at2 in
+    let mark-of = c .before .before .before .before .mark-of in
+    behind-mark (a .from) (now (a .rest)) _ _ _ _ (if1 .left) (if2 .left) (byte-at .ensures) (byte-at2 .ensures) (mark-of .ensures)
+    (rw (c .before .before .mark .given .1) (c .known .ensures))
+
+returns-4 : tie.Need-returns-4
+returns-4 c =
+    let a = c .before .before .before .before .before .before .before .before .args in
+    let if1 = c .before .before .before .before .before .before .if1 in
+    let if2 = c .before .before .before .before .before .if2 in
+    let byte-at = c .before .before .before .before .byte-at in
+    let byte-at2 = c .before .before .before .byte-at2 in
+    behind-mark (a .from) (now (a .rest)) _ _ _ _ (if1 .left) (if2 .left) (byte-at .ensures) (byte-at2 .ensures) (c .before .before .mark-of .ensures)
+    (rw (c .enum-told .given .1))
+
+pub record-in-spec : {M : Type 1} → statement M
+record-in-spec =
+    tie.close
+    (tie.spec
+    returns
+    returns-2
+    byte-at-requires
+    byte-at-requires-2
+    mark-of-requires
+    enum-known-mark
+    known-requires
+    enum-told
+    returns-3
+    returns-4)

@@ -1,0 +1,8 @@
+pub mod Marks
+pub mod Records
+pub mod Reader
+pub mod Inside
+pub mod Whole
+pub mod Again
+pub mod Order
+pub mod Writer
