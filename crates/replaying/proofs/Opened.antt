@@ -1,0 +1,87 @@
+-- A replay of a whole input: its first byte, and the run behind it. Assumes nothing.
+use mathlib.Core.Path.{_≡_, refl, sym, ap, _∙_}
+use mathlib.Core.Bool.{Bool, true, false, cond}
+use mathlib.Core.List.{List, [], _∷_, _++_}
+use Prim.Native.Nat.{ℕ, _-_, _≤_}
+use Prim.Native.Char.{code}
+use native.Mathlib.Omega.{arith}
+use lib.Dec.{eqb}
+use lib.ListN.{length, take}
+use borrow.Author.Tests.{eqb-true}
+use Rattle.laws.proofs.Passes.{on-test}
+use Rattle.laws.proofs.Truths.{clash}
+use Rattle.lines.specs.Lines.{isLine}
+use Rattle.reading.specs.Answers.{Outcome}
+use Rattle.text.specs.Putting.{puts, placed}
+use Rattle.text.proofs.Puts.{with-room}
+use Rattle.lister.specs.Line.{badLine, lineNamed}
+use Rattle.lister.specs.declared.state.Wants.the-variants.{End}
+use Rattle.replays.specs.Texts.{rowRoom}
+use Rattle.replaying.specs.declared.state.Replayer.{Replayer}
+use Rattle.replaying.specs.State.{begunOn}
+use Rattle.replaying.specs.Turn.{openedOn}
+use Rattle.replaying.specs.Replay.{replayOn, replayOf}
+use Rattle.replaying.specs.Runs.{Stand, Given, begun, openedAt, standAfter, MayRun, WholeInput}
+use Rattle.replaying.proofs.EachTurn.{whole-replay}
+
+-- a line that a digit names is one
+line-named : (digit : ℕ) → eqb (lineNamed digit) 0 ≡ false → isLine (lineNamed digit) ≡ true
+unfolding lineNamed
+line-named digit h = go (isLine (digit - code "0")) refl h
+  where
+    go : (b : Bool) → isLine (digit - code "0") ≡ b → eqb (cond b (digit - code "0") 0) 0 ≡ false → isLine (cond b (digit - code "0") 0) ≡ true
+    go true e q = e
+    go false e q = clash (sym q)
+
+-- the text of no line, from the front of an output
+bad-front : (out : List ℕ) → rowRoom ≤ length out → take (puts badLine 0 out .0) (puts badLine 0 out .1) ≡ badLine
+unfolding placed
+bad-front out h = rw (with-room badLine 0 out (omega arith))
+
+-- a run that is over goes no further
+no-more : (s : Stand) (gs : List Given) → s .replayer .wants ≡ End → MayRun s gs → (standAfter s gs .written ≡ s .written) × (standAfter s gs .read ≡ s .read)
+no-more s [] e may = (refl, refl)
+no-more s (g ∷ gs) e may = absurd (may .0 .going e)
+
+module _ (first out buf : List ℕ) (gs : List Given) (digit : ℕ) (room : rowRoom ≤ length out) where
+  abbrev stand : Stand
+  stand = openedAt (openedOn (lineNamed digit) out) buf
+
+  unnamed : eqb (lineNamed digit) 0 ≡ true → ((read : List ℕ) → read ≡ [] → replayOf (first ++ read) ≡ badLine) → MayRun stand gs
+      → standAfter stand gs .written ≡ replayOf (first ++ standAfter stand gs .read)
+  unfolding openedOn
+  unnamed z bad may =
+      let e : stand .replayer .wants ≡ End = rw z in
+      let n = no-more stand gs e may in
+      let w : stand .written ≡ badLine = rw z (bad-front out room) in
+      n .0 ∙ (w ∙ sym (bad (standAfter stand gs .read) (n .1)))
+
+  named : eqb (lineNamed digit) 0 ≡ false → ((read : List ℕ) → replayOf (first ++ read) ≡ replayOn (lineNamed digit) read) → MayRun stand gs → standAfter stand gs .replayer .wants ≡ End
+      → standAfter stand gs .written ≡ replayOf (first ++ standAfter stand gs .read)
+  unfolding openedOn
+  named z good =
+      rw z (λ may e. whole-replay (lineNamed digit) buf gs may e ∙ sym (good (standAfter (begun (lineNamed digit) buf) gs .read)))
+
+bad-digit : (digit : ℕ) (read : List ℕ) → eqb (lineNamed digit) 0 ≡ true → replayOf (digit ∷ read) ≡ badLine
+unfolding replayOf
+bad-digit digit read z = rw (eqb-true (lineNamed digit) 0 z)
+
+good-digit : (digit : ℕ) (read : List ℕ) → eqb (lineNamed digit) 0 ≡ false → replayOf (digit ∷ read) ≡ replayOn (lineNamed digit) read
+unfolding replayOf
+good-digit digit read z = rw (line-named digit z)
+
+no-digit : (read : List ℕ) → read ≡ [] → replayOf ([] ++ read) ≡ badLine
+unfolding replayOf
+no-digit read e = rw e
+
+nothing-named : eqb (lineNamed 0) 0 ≡ true
+unfolding lineNamed
+nothing-named = refl
+
+pub whole-input : WholeInput
+whole-input [] out buf gs l room may e = unnamed [] out buf gs 0 room nothing-named no-digit may
+whole-input (digit ∷ []) out buf gs l room may e =
+    on-test (eqb (lineNamed digit) 0)
+    (λ z. unnamed (digit ∷ []) out buf gs digit room z (λ read _. bad-digit digit read z) may)
+    (λ z. named (digit ∷ []) out buf gs digit room z (λ read. good-digit digit read z) may e)
+whole-input (digit ∷ other ∷ more) out buf gs l room may e = absurd (omega (arith, l))

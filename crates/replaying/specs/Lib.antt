@@ -1,0 +1,4 @@
+pub mod State
+pub mod Turn
+pub mod Replay
+pub mod Runs

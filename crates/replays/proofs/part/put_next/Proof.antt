@@ -1,0 +1,84 @@
+-- `put_next` does at a place what its definition says of what stands there. Assumes nothing.
+use Rattle.replays.proofs.Step.{on-record, on-nothing, on-refusal}
+use Rattle.logs.specs.Reader.{nextOf}
+use denote.Ref.{now}
+use mathlib.Core.Path.{_≡_, sym, ap, _∙_}
+use borrow.Author.Needs.{needs}
+use Rattle.replays.proofs.part.put_next.Statement.{statement}
+use Rattle.replays.proofs.part.put_next.Tie as tie
+
+next-record-requires : tie.Need-next-record-requires
+next-record-requires c κs = search needs
+
+enum-known-next : tie.Need-enum-known-next
+enum-known-next c = search needs
+
+bytes-of-requires : tie.Need-bytes-of-requires
+bytes-of-requires c κs = search needs
+
+put-row-requires : tie.Need-put-row-requires
+put-row-requires c κs = search needs
+
+rowed-requires : tie.Need-rowed-requires
+rowed-requires c κs = search needs
+
+enum-told : tie.Need-enum-told
+enum-told c = search needs
+
+enum-known-next-2 : tie.Need-enum-known-next-2
+enum-known-next-2 c = search needs
+
+number-of-requires : tie.Need-number-of-requires
+number-of-requires c κs = search needs
+
+refused-requires : tie.Need-refused-requires
+refused-requires c κs = search needs
+
+same-length : tie.Need-same-length
+same-length c = search needs
+
+returns : tie.Need-returns
+returns c =
+    let a = c .before .before .before .before .before .before .before .before .before .before .before .before .args in
+    let next-record = c .before .before .before .before .before .before .before .before .before .next-record in
+    let next = c .before .before .before .before .before .before .before .next in
+    let bytes-of = c .before .before .before .before .before .bytes-of in
+    let put-row = c .before .before .before .put-row in
+    on-record (a .desk) (a .ordinal) (a .offset) (now (a .s)) (a .from) (now (a .out)) _ _ _ _ _ _ _ _ _ _ (next-record .ensures)
+    (ap nextOf (next .given .1)) (bytes-of .ensures) (put-row .ensures) (c .rowed .ensures)
+
+returns-2 : tie.Need-returns-2
+returns-2 c =
+    let a = c .before .before .before .before .before .args in
+    on-nothing (a .desk) (a .ordinal) (a .offset) (now (a .s)) (a .from) (now (a .out)) _ (c .before .before .next-record .ensures) (ap nextOf (c .enum-told .given .1))
+
+same-length-2 : tie.Need-same-length-2
+same-length-2 c = search needs
+
+returns-3 : tie.Need-returns-3
+returns-3 c =
+    let a = c .before .before .before .before .before .before .before .before .before .before .before .args in
+    let next-record = c .before .before .before .before .before .before .before .before .next-record in
+    let next2 = c .before .before .before .before .before .before .next2 in
+    let number-of = c .before .before .before .before .number-of in
+    on-refusal (a .desk) (a .ordinal) (a .offset) (now (a .s)) (a .from) (now (a .out)) _ _ _ _ (next-record .ensures) (ap nextOf (next2 .given .1))
+    (number-of .ensures) (c .before .before .refused .ensures)
+
+pub put-next-spec : {M : Type 1} → statement M
+put-next-spec =
+    tie.close
+    (tie.spec
+    next-record-requires
+    enum-known-next
+    bytes-of-requires
+    put-row-requires
+    rowed-requires
+    enum-told
+    enum-known-next-2
+    number-of-requires
+    refused-requires
+    same-length
+    returns
+    returns-2
+    same-length-2
+    returns-3)
