@@ -1,5 +1,5 @@
 /*
- * in656.h: telegrams of IN 656 V 1711 (edition 01.02), and both ends of a line.
+ * in656.h: telegrams of IN 656 V 1711 (edition 01.02), both ends of a line, and capture logs.
  *
  * Every function takes every input and returns. Bad input gets a numbered refusal, and a refused call changes neither the state nor any output.
  * No function keeps a pointer, allocates memory or uses anything but what is lent to it, so calls on different states may run in parallel.
@@ -59,6 +59,9 @@ extern "C" {
 #define IN656_WRONG_STATE 15u     /* no such line, or a state out of its ranges */
 #define IN656_NOT_FREE 16u        /* the master has not ended its last telegram */
 #define IN656_QUEUE_FULL 17u      /* eight records wait */
+#define IN656_UNKNOWN_MARK 18u    /* no such mark of a log record; place where the record begins */
+#define IN656_WRONG_LENGTH 19u    /* a log record may not have so many bytes; place where the record begins */
+#define IN656_CUT_OFF 20u         /* the log ends within a record; place where the record begins */
 
 /*
  * What a call answers. A field that a call does not use is 0.
@@ -69,8 +72,8 @@ typedef struct in656_result {
   uint32_t outcome;  /* what the call did: below, by call */
   uint32_t detail;   /* more of the outcome: below, by call */
   uint32_t contents; /* the refusal of the frame that was heard; the call itself is not refused */
-  uint64_t place;    /* the place of the refusal, or of the contents' refusal; of a search, where the telegram begins */
-  uint64_t written;  /* how many bytes of the output are written, or how many bytes a telegram has */
+  uint64_t place;    /* the place of the refusal, or of the contents' refusal; of a search, where the telegram begins; of a log record, where its bytes begin */
+  uint64_t written;  /* how many bytes of the output are written, or how many bytes a telegram or a log record has */
   uint32_t number;   /* the telegram's number, 0 or 1 */
   uint32_t count;    /* the master's sending count, 1 to 3 */
   uint32_t lost;     /* 1 where this call of the desk noted the line lost */
@@ -103,6 +106,23 @@ in656_result in656_gatherer_hit(uint8_t *state, size_t state_length);
 
 /* Searches a slice for the next telegram from an index on: outcome 1, place and written where there is one; outcome 0 where none is left. */
 in656_result in656_next(const uint8_t *bytes, size_t length, size_t from);
+
+/*
+ * A capture log, record by record. A record has a mark, a time in four bytes, the highest first, a length byte, and so many bytes:
+ * at most 66, and none in a hit.
+ */
+#define IN656_LOG_MASTER 1u   /* M>, a sending by the master */
+#define IN656_LOG_SLAVE 2u    /* S>, a sending by the slave */
+#define IN656_LOG_HIT 3u      /* H!, a hit */
+#define IN656_LOG_LONGEST 73u /* the longest record, with its mark, time and length */
+
+/*
+ * Reads the record that begins at an index: outcome is its mark, detail its time; its bytes lie in the log from place on, and written
+ * says how many. The next record begins at place + written. Outcome 0 at the end of the log and past it. Refusals: 18, 19, 20.
+ */
+in656_result in656_log_read(const uint8_t *log, size_t length, size_t from);
+/* Writes a record to the front of out. Refusals: 18, 19, 14. Answers written. */
+in656_result in656_log_write(uint32_t mark, uint32_t time, const uint8_t *bytes, size_t length, uint8_t *out, size_t out_length);
 
 /* The desk, the slave's end. Times are a 32-bit millisecond count that starts again at zero. */
 #define IN656_DESK_DONE 1u    /* start, tick, queue, set, key: done */

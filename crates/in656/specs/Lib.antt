@@ -1,3 +1,4 @@
 pub mod Telegrams
+pub mod Logs
 pub mod Gatherers
 pub mod Masters

@@ -2,5 +2,6 @@
 pub mod desks;
 pub mod gatherers;
 pub mod lengths;
+pub mod log;
 pub mod masters;
 pub mod telegrams;

@@ -1,0 +1,50 @@
+-- `in656_log_write` meets its contract. Assumes nothing.
+use Rattle.in656.proofs.Calls.{written}
+use borrow.Author.Needs.{needs}
+use Rattle.in656.proofs.log.in656_log_write.Statement.{statement}
+use Rattle.in656.proofs.log.in656_log_write.Tie as tie
+
+mark-in-requires : tie.Need-mark-in-requires
+mark-in-requires c κs = search needs
+
+enum-known-known : tie.Need-enum-known-known
+enum-known-known c = search needs
+
+write-record-requires : tie.Need-write-record-requires
+write-record-requires c κs = search needs
+
+of-writing-requires : tie.Need-of-writing-requires
+of-writing-requires c κs = search needs
+
+enum-told : tie.Need-enum-told
+enum-told c = search needs
+
+refuse-requires : tie.Need-refuse-requires
+refuse-requires c κs = search needs
+
+same-length : tie.Need-same-length
+same-length c = search needs
+
+returns : tie.Need-returns
+returns c =
+    let mark-in = c .before .before .before .before .before .before .before .before .mark-in in
+    let known = c .before .before .before .before .before .before .known in
+    let write = c .before .before .before .write-record in
+    rw (← (mark-in .ensures), known .given .1) (written _ _ _ _ (c .of-writing .ensures) (write .ensures))
+
+returns-2 : tie.Need-returns-2
+returns-2 c = rw (c .refuse .ensures, ← (c .before .before .before .mark-in .ensures), c .before .enum-told .given .1)
+
+pub in656-log-write-spec : {M : Type 1} → statement M
+in656-log-write-spec =
+    tie.close
+    (tie.spec
+    mark-in-requires
+    enum-known-known
+    write-record-requires
+    of-writing-requires
+    enum-told
+    refuse-requires
+    same-length
+    returns
+    returns-2)
