@@ -1,8 +1,9 @@
 # make: proves and builds the library and the programs, and puts them into dist/ with the header.
 # make install PREFIX=/usr/local: installs dist/ and the manual; DESTDIR= goes in front of every path.
 # make list IN=samples/line1.cap: lists the telegrams of a capture.
+# make replay IN=samples/school.log: runs the desk on a recorded log, and prints what it did (docs/REPLAY.md).
 # make scene IN=FILE: runs a script of calls (docs/SCENES.md).
-# make demo LINE=1 SEED=33 SECONDS=90: shows both ends over a simulated line.
+# make demo LINE=1 SEED=33 SECONDS=90: shows both ends over a simulated line; LOG=FILE keeps a log of it, PANEL=idle has the panel do nothing.
 # make try: runs the two C examples against each other over pseudo-terminals.
 # make check: the gate.
 # make soak FACTOR=20: compares the library with the second version, 20 times as much as the gate does.
@@ -12,6 +13,9 @@ LINE ?= 1
 SEED ?= 33
 SECONDS ?= 90
 FACTOR ?= 20
+# only words of the command line: a file that the environment names is not overwritten
+LOG =
+PANEL =
 
 PREFIX ?= /usr/local
 BINDIR ?= $(PREFIX)/bin
@@ -37,16 +41,17 @@ ENDS := $(if $(filter x86_64,$(MACHINE)),$(ARCHIVE),dist/scenes)
 # $(call need,COMMAND): stops with one line where the machine lacks a command
 need = @command -v $(1) > /dev/null || { echo "make $@ needs $(1), which is not found" >&2; exit 2; }
 
-.PHONY: all help check list demo scene input try soak bench shared install clean
+.PHONY: all help check list replay demo scene input try soak bench shared install clean
 # two proofs at once would write the same files; rt itself uses all processors
 .NOTPARALLEL:
 # exported, so that a name with spaces reaches the shell as one word
 list: IN ?= samples/line1.cap
-export IN
+replay: IN ?= samples/school.log
+export IN LOG
 
-all: dist/libin656.a shared dist/in656.h dist/in656.pc dist/listing dist/scenes
+all: dist/libin656.a shared dist/in656.h dist/in656.pc dist/listing dist/replay dist/scenes
 
-dist/listing dist/scenes: dist/%: $(SOURCES)
+dist/listing dist/replay dist/scenes: dist/%: $(SOURCES)
 	@tools/build check $*
 	@mkdir -p dist
 	@cp target/bin/$* $@
@@ -92,12 +97,12 @@ endif
 
 install: all
 	@$(INSTALL) -d "$(DESTDIR)$(BINDIR)" "$(DESTDIR)$(INCLUDEDIR)" "$(DESTDIR)$(LIBDIR)/pkgconfig" "$(DESTDIR)$(MANDIR)/man1" "$(DESTDIR)$(MANDIR)/man3"
-	@$(INSTALL) -m 755 dist/listing dist/scenes "$(DESTDIR)$(BINDIR)"
+	@$(INSTALL) -m 755 dist/listing dist/replay dist/scenes "$(DESTDIR)$(BINDIR)"
 	@$(INSTALL) -m 644 dist/libin656.a "$(DESTDIR)$(LIBDIR)"
 	@if [ -f dist/$(SONAME) ]; then $(INSTALL) -m 755 dist/$(SONAME) "$(DESTDIR)$(LIBDIR)" && ln -sf $(SONAME) "$(DESTDIR)$(LIBDIR)/libin656.so"; fi
 	@$(INSTALL) -m 644 include/in656.h "$(DESTDIR)$(INCLUDEDIR)"
 	@$(call PC,$(PREFIX),$(LIBDIR),$(INCLUDEDIR)) > "$(DESTDIR)$(LIBDIR)/pkgconfig/in656.pc"
-	@$(INSTALL) -m 644 man/listing.1 man/scenes.1 "$(DESTDIR)$(MANDIR)/man1"
+	@$(INSTALL) -m 644 man/listing.1 man/replay.1 man/scenes.1 "$(DESTDIR)$(MANDIR)/man1"
 	@$(INSTALL) -m 644 man/in656.3 "$(DESTDIR)$(MANDIR)/man3"
 	@echo "installed: $(DESTDIR)$(LIBDIR)/libin656.a, $(DESTDIR)$(INCLUDEDIR)/in656.h, the programs and the manual"
 
@@ -107,12 +112,15 @@ input:
 list: input dist/listing
 	@tools/run dist/listing < "$$IN"
 
+replay: input dist/replay
+	@tools/run dist/replay < "$$IN"
+
 scene: input dist/scenes
 	@tools/run dist/scenes < "$$IN"
 
 demo: $(ENDS)
 	$(call need,cargo)
-	@$(HOST) --bin demo '$(LINE)' '$(SEED)' '$(SECONDS)' dist/scenes
+	@$(HOST) --bin demo '$(LINE)' '$(SEED)' '$(SECONDS)' dist/scenes "$$LOG" '$(PANEL)'
 
 soak: $(ARCHIVE)
 	$(call need,cargo)

@@ -3,7 +3,9 @@
 //! the program `scenes`, the second version or the library can stand behind them.
 
 use crate::demand::{summary, Item};
+use crate::logs::Mark;
 use crate::making::any_form;
+use crate::odds::{Fate, Odds};
 use crate::random::Random;
 use crate::reading::{read, Reading};
 use crate::records::{by_master, data_type, Record};
@@ -23,52 +25,16 @@ impl Ends for Bench {
     }
 }
 
-/// How many things, of how many, the line loses or spoils, and when it is dead, in milliseconds.
-pub struct Odds {
-    pub lost: usize,
-    pub spoiled: usize,
-    pub of: usize,
-    pub dead: std::ops::Range<u32>,
-}
-
-/// The line of the demonstration: dead for longer than T1.
-pub const SHOWN: Odds = Odds {
-    lost: 1,
-    spoiled: 1,
-    of: 12,
-    dead: 30_000..64_000,
-};
-
-/// The line, seed and seconds that three words ask for, or what is wrong with them. The seconds
-/// fit a clock of 32 bits of milliseconds.
-pub fn asked(line: &str, seed: &str, seconds: &str) -> Result<(u8, u64, u32), String> {
-    let number = |word: &str, most: u64| word.parse().ok().filter(|n| (1..=most).contains(n));
-    let most = u64::from(u32::MAX / 1_000);
-    let Some(on) = number(line, 3) else {
-        return Err(format!("LINE is 1, 2 or 3, not '{line}'"));
-    };
-    let Ok(from) = seed.parse() else {
-        return Err(format!("SEED is a number, not '{seed}'"));
-    };
-    let Some(time) = number(seconds, most) else {
-        return Err(format!("SECONDS is 1 to {most}, not '{seconds}'"));
-    };
-    Ok((on as u8, from, time as u32))
-}
-
-/// What becomes of a thing on the line.
-enum Fate {
-    Whole,
-    Spoiled,
-    Lost,
-}
-
 /// A sending or an answer under way, and when it arrives.
 struct Flight {
     to_desk: bool,
     frame: String,
     at: u32,
 }
+
+/// What a log of a run has: each frame that the desk hears, as it arrives, each that it sends,
+/// and each hit. A tick of the desk is logged as a hit where it notes the line lost.
+pub type Logged = Vec<(Mark, u32, Vec<u8>)>;
 
 /// A run: the time line so far, what happened, and what is under way.
 struct Run<'a, E> {
@@ -79,6 +45,7 @@ struct Run<'a, E> {
     now: u32,
     text: String,
     history: Vec<Item>,
+    log: Logged,
     flight: Option<Flight>,
     free: bool,
     sent: usize,
@@ -92,6 +59,18 @@ pub fn run<E: Ends>(
     seed: u64,
     duration: u32,
 ) -> (String, Vec<Item>) {
+    let (text, history, _) = logged(ends, odds, line, seed, duration);
+    (text, history)
+}
+
+/// The same, with the log of the run.
+pub fn logged<E: Ends>(
+    ends: &mut E,
+    odds: &Odds,
+    line: u8,
+    seed: u64,
+    duration: u32,
+) -> (String, Vec<Item>, Logged) {
     let mut run = Run {
         ends,
         odds,
@@ -100,6 +79,7 @@ pub fn run<E: Ends>(
         now: 0,
         text: String::new(),
         history: Vec::new(),
+        log: Logged::new(),
         flight: None,
         free: true,
         sent: 0,
@@ -112,7 +92,7 @@ pub fn run<E: Ends>(
     }
     run.text.push('\n');
     run.text.push_str(&summary(&run.history));
-    (run.text, run.history)
+    (run.text, run.history, run.log)
 }
 
 impl<E: Ends> Run<'_, E> {
@@ -138,12 +118,14 @@ impl<E: Ends> Run<'_, E> {
             let answer = self.ends.call(&format!("master tick {} 66", self.now));
             self.master(&answer, "");
             let answer = self.ends.call(&format!("desk tick {}", self.now));
-            self.noted(&answer);
+            if self.noted(&answer) {
+                self.keep(Mark::Hit, "");
+            }
         }
         if self.free && self.random.one_in(150) {
             self.offer();
         }
-        if self.random.one_in(400) {
+        if self.odds.panel > 0 && self.random.one_in(self.odds.panel) {
             self.panel();
         }
     }
@@ -237,28 +219,25 @@ impl<E: Ends> Run<'_, E> {
         }
     }
 
-    fn noted(&mut self, answer: &str) {
-        if answer.starts_with("line noted lost") {
+    /// Whether a call of the desk noted the line lost; it is said then.
+    fn noted(&mut self, answer: &str) -> bool {
+        let noted = answer.starts_with("line noted lost");
+        if noted {
             self.history.push(Item::Noted);
             self.say("S", "notes a lost line", "");
         }
+        noted
+    }
+
+    /// Puts a record into the log.
+    fn keep(&mut self, mark: Mark, frame: &str) {
+        self.log.push((mark, self.now, bytes_of(frame)));
     }
 
     /// Puts a thing on the line; ten bits a byte at 9,600 a second.
     fn fly(&mut self, to_desk: bool, frame: String) {
         let at = self.now + 10 + frame.len() as u32 * 10 / 9;
         self.flight = Some(Flight { to_desk, frame, at });
-    }
-
-    fn fate(&mut self) -> Fate {
-        let drawn = self.random.below(self.odds.of);
-        if drawn < self.odds.lost || self.odds.dead.contains(&self.now) {
-            return Fate::Lost;
-        }
-        if drawn < self.odds.lost + self.odds.spoiled {
-            return Fate::Spoiled;
-        }
-        Fate::Whole
     }
 
     /// A frame with one character changed, so that checks 1 to 7 refuse it.
@@ -277,13 +256,20 @@ impl<E: Ends> Run<'_, E> {
     }
 
     fn arrive(&mut self, flight: Flight) {
-        let fate = self.fate();
+        let fate = self.odds.fate(&mut self.random, self.now);
         let what = if flight.to_desk { "sending" } else { "answer" };
         let frame = match fate {
             Fate::Lost => {
                 self.say("", &format!("the {what} is lost"), "");
                 if flight.to_desk {
                     self.history.push(Item::Over(self.sent));
+                }
+                return;
+            }
+            Fate::Hit => {
+                self.say("", &format!("the {what} is hit"), "");
+                if flight.to_desk {
+                    self.desk_is_hit();
                 }
                 return;
             }
@@ -304,7 +290,16 @@ impl<E: Ends> Run<'_, E> {
         }
     }
 
+    /// A byte of the sending comes with a parity error: the desk gets a tick and no frame.
+    fn desk_is_hit(&mut self) {
+        self.keep(Mark::Hit, "");
+        let answer = self.ends.call(&format!("desk tick {}", self.now));
+        self.noted(&answer);
+        self.history.push(Item::Over(self.sent));
+    }
+
     fn desk_hears(&mut self, frame: &str) {
+        self.keep(Mark::Master, frame);
         let answer = self
             .ends
             .call(&format!("desk hear {} 66 {frame}", self.now));
@@ -337,6 +332,7 @@ impl<E: Ends> Run<'_, E> {
         }
         self.history.push(Item::Over(self.sent));
         if !made.is_empty() {
+            self.keep(Mark::Slave, &made);
             self.fly(false, made);
         }
     }

@@ -50,6 +50,10 @@ pub enum Call<'a> {
     MasterTick(u32),
     /// time, frame
     MasterHear(u32, &'a [u8]),
+    /// log, from
+    LogRead(&'a [u8], usize),
+    /// mark, time, bytes
+    LogWrite(u32, u32, &'a [u8]),
 }
 
 /// The lengths that the functions without arguments give: result, longest telegram, record,
@@ -84,6 +88,8 @@ impl<'a> Call<'a> {
             Call::MasterOffer(..) => "master_offer",
             Call::MasterTick(_) => "master_tick",
             Call::MasterHear(..) => "master_hear",
+            Call::LogRead(..) => "log_read",
+            Call::LogWrite(..) => "log_write",
         }
     }
 
@@ -94,7 +100,8 @@ impl<'a> Call<'a> {
             Call::Write(line, record, number) => (vec![line as usize, number as usize], record),
             Call::GathererStart | Call::GathererHit => (vec![], &[]),
             Call::GathererByte(byte) => (vec![byte.into()], &[]),
-            Call::Next(bytes, from) => (vec![from], bytes),
+            Call::Next(bytes, from) | Call::LogRead(bytes, from) => (vec![from], bytes),
+            Call::LogWrite(mark, time, bytes) => (vec![mark as usize, time as usize], bytes),
             Call::DeskQueue(record) | Call::DeskSet(record) => (vec![], record),
             Call::DeskStart(number)
             | Call::DeskTick(number)

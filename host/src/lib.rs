@@ -1,5 +1,5 @@
-//! A second version of reading, cutting, listing and the two ends, written from the rules
-//! (docs/RULES.md) alone, and of the C face, written from its header; with makers of telegrams, captures, scripts
+//! A second version of reading, cutting, listing, the log, its replay and the two ends, written from the rules
+//! (docs/RULES.md) alone, and of the C face, written from its header; with makers of telegrams, captures, logs, scripts
 //! and calls to try the project's programs and its library with.
 
 pub mod arguments;
@@ -17,13 +17,17 @@ pub mod faults;
 #[cfg(archive)]
 pub mod library;
 pub mod listing;
+pub mod logging;
+pub mod logs;
 pub mod making;
 pub mod master;
 pub mod numbers;
+pub mod odds;
 pub mod program;
 pub mod random;
 pub mod reading;
 pub mod records;
+pub mod replay;
 pub mod runs;
 pub mod script;
 pub mod scripting;

@@ -61,6 +61,15 @@ extern "C" {
         r: *mut u8,
         rl: usize,
     ) -> Answer;
+    fn in656_log_read(b: *const u8, bl: usize, from: usize) -> Answer;
+    fn in656_log_write(
+        mark: u32,
+        time: u32,
+        b: *const u8,
+        bl: usize,
+        o: *mut u8,
+        ol: usize,
+    ) -> Answer;
 }
 
 /// A pointer to bytes: null where there are none, as the header allows.
@@ -125,6 +134,8 @@ impl Face for Library {
                 Call::MasterHear(time, f) => {
                     in656_master_hear(s, sl, time, at(f), f.len(), o, ol, r, rl)
                 }
+                Call::LogRead(b, from) => in656_log_read(at(b), b.len(), from),
+                Call::LogWrite(mark, time, b) => in656_log_write(mark, time, at(b), b.len(), o, ol),
             }
         }
     }

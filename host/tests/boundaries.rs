@@ -6,7 +6,7 @@ mod running;
 use host::making::{capture, framed};
 use host::random::Random;
 use host::reading::{CR, LF};
-use running::{compare, compare_from_file, compare_slowly, on_line, printed_for, SAMPLE};
+use running::{on_line, LISTING, SAMPLE};
 use std::time::Duration;
 
 /// The size of the pieces in which the program reads at least.
@@ -41,7 +41,7 @@ fn telegrams_across_boundaries_in_quiet() {
     for telegram in laid_across() {
         for shift in -71..=71 {
             let input = across(&quiet, &telegram, shift);
-            let listing = compare_from_file("across boundaries in quiet", &input);
+            let listing = LISTING.compare_from_file("across boundaries in quiet", &input);
             assert!(telegram.len() > 66 || listing.lines().count() >= 4);
         }
     }
@@ -66,8 +66,8 @@ fn telegrams_across_boundaries_among_others() {
     for telegram in laid_across() {
         for shift in -71..=71 {
             let input = across(&busy, &telegram, shift);
-            compare_from_file("across boundaries among others", &input);
-            compare("across boundaries by pipe", &input);
+            LISTING.compare_from_file("across boundaries among others", &input);
+            LISTING.compare("across boundaries by pipe", &input);
         }
     }
 }
@@ -78,7 +78,7 @@ fn telegrams_packed_across_any_boundary() {
         for shift in 0..telegram.len() {
             let times = 3 * PIECE / telegram.len();
             let input = on_line(2, &[&vec![b'x'; shift], &telegram.repeat(times)]);
-            let listing = compare_from_file("packed", &input);
+            let listing = LISTING.compare_from_file("packed", &input);
             let most = if telegram.len() > 66 { 0 } else { times };
             assert!(listing.lines().count() >= most);
         }
@@ -95,7 +95,7 @@ fn inputs_that_end_near_boundaries() {
             for end in [&open, &whole] {
                 let mut input = busy[..length].to_vec();
                 input[length - end.len()..].copy_from_slice(end);
-                compare_from_file("ends near boundaries", &input);
+                LISTING.compare_from_file("ends near boundaries", &input);
             }
         }
     }
@@ -115,7 +115,7 @@ fn over_long_runs() {
                     &[&good, b"\n", &run, b"\n\r\r", &run, &good],
                     &[b"\n", &run, b"\r", b"\n", &run, b"\r", &good],
                 ] {
-                    compare("over-long runs", &on_line(line, parts));
+                    LISTING.compare("over-long runs", &on_line(line, parts));
                 }
             }
         }
@@ -126,12 +126,12 @@ fn over_long_runs() {
 fn random_captures_of_4_mib() {
     for line in 1..=3 {
         let input = capture(&mut Random::seeded(12 + u64::from(line)), line, 4 << 20);
-        compare("4 MiB", &input);
-        compare_from_file("4 MiB from a file", &input);
+        LISTING.compare("4 MiB", &input);
+        LISTING.compare_from_file("4 MiB from a file", &input);
     }
     let mut random = Random::seeded(16);
     let any: Vec<u8> = (0..4 << 20).map(|_| random.byte()).collect();
-    compare("4 MiB of any bytes", &on_line(1, &[&any]));
+    LISTING.compare("4 MiB of any bytes", &on_line(1, &[&any]));
 }
 
 #[test]
@@ -140,25 +140,25 @@ fn input_fed_slowly() {
     let rest = Duration::from_micros(300);
     for line in 1..=3 {
         let input = capture(&mut random, line, 600);
-        compare_slowly("byte by byte", &input, rest, || 1);
+        LISTING.compare_slowly("byte by byte", &input, rest, || 1);
         let input = capture(&mut random, line, 2000);
-        compare_slowly("in small writes", &input, rest, || random.from_to(1, 9));
+        LISTING.compare_slowly("in small writes", &input, rest, || random.from_to(1, 9));
         let input = capture(&mut random, line, 400_000);
-        compare_slowly("in larger writes", &input, rest, || random.from_to(1, 9000));
+        LISTING.compare_slowly("in larger writes", &input, rest, || random.from_to(1, 9000));
         let sizes = [1, PIECE - 1, 1, PIECE, 1, PIECE + 1];
         let mut turn = sizes.iter().cycle();
-        compare_slowly("in pieces", &input, rest, || {
+        LISTING.compare_slowly("in pieces", &input, rest, || {
             turn.next().map_or(1, |size| *size)
         });
     }
-    compare_slowly("digit alone", b"1", Duration::from_millis(20), || 1);
+    LISTING.compare_slowly("digit alone", b"1", Duration::from_millis(20), || 1);
 }
 
 #[test]
 #[ignore = "feeds more than 4 GiB"]
 fn an_offset_past_4_gib() {
     let piece = [b"x".repeat((1 << 20) - 1).as_slice(), &[CR]].concat();
-    let printed = printed_for(b"3", &piece, 4097, &SAMPLE[1..]);
+    let printed = LISTING.printed_for(b"3", &piece, 4097, &SAMPLE[1..]);
     let wanted = "1 4296015872 ok A 0\n2 4296015882 no 6 7\n";
     assert_eq!(String::from_utf8_lossy(&printed), wanted);
 }

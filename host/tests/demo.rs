@@ -2,8 +2,9 @@
 
 use host::both::BothEnds;
 use host::demand::{judge, supposed, Item};
-use host::demo::{asked, run, SHOWN};
+use host::demo::run;
 use host::face::library;
+use host::odds::{asked, SHOWN};
 use host::program::Program;
 use host::script::Bench;
 use std::path::{Path, PathBuf};

@@ -4,6 +4,7 @@
 use host::comparing::{compare, figures, Tally, GATE};
 use host::face::{library, Face};
 use host::faults::FAULTS;
+use host::logging::small;
 use host::runs::judge_runs;
 use host::second::Second;
 use std::io::Write;
@@ -127,6 +128,38 @@ fn sequences_of_calls() {
         refused(&tally, "master_tick", [14, 15]);
         refused(&tally, "master_hear", [14, 15]);
         refused(&tally, "master_offer", 12..=16);
+    }
+}
+
+/// 100,000 logs, and a small one with each byte replaced by every value, read and run on a fresh desk.
+#[test]
+fn logs_replayed() {
+    let run = |library: &dyn Face| compare("logs replayed", GATE, library, &Second);
+    if let Some(tally) = part("logs replayed", run) {
+        let changed = 256 * small().len() as u64;
+        assert_eq!(sum(&tally, "desk_start"), 100_000 + changed);
+        for mark in 0..=3 {
+            reached(&tally, "log_read", mark, [0]);
+        }
+        refused(&tally, "log_read", 18..=20);
+        for outcome in 2..=4 {
+            reached(&tally, "desk_hear", outcome, [0]);
+        }
+        reached(&tally, "desk_hear", 5, 3..=7);
+        assert!(
+            tally.contains_key(&("desk_tick", 0, 1, 0, 1)),
+            "a hit notes the line lost"
+        );
+    }
+}
+
+#[test]
+fn records_of_a_log_written() {
+    let run = |library: &dyn Face| compare("records of a log written", GATE, library, &Second);
+    if let Some(tally) = part("records of a log written", run) {
+        assert_eq!(sum(&tally, "log_write"), 1_000_000);
+        reached(&tally, "log_write", 0, [0]);
+        refused(&tally, "log_write", [14, 18, 19]);
     }
 }
 

@@ -162,6 +162,33 @@ impl Found<'_> {
         self.is("OK", self.write(3, &k(), 1, 30).refusal);
     }
 
+    /// The marks of a log, its refusals, and the room that its longest record needs.
+    fn logs(&mut self) {
+        let read = |log: &[u8]| {
+            let call = Call::LogRead(log, 0);
+            self.face.call(call, &mut [], &mut [], &mut [])
+        };
+        let write = |bytes: &[u8], room| {
+            let call = Call::LogWrite(1, 5, bytes);
+            self.face.call(call, &mut [], &mut vec![0; room], &mut [])
+        };
+        let longest = (0..200).find(|room| write(&[0; 66], *room).refusal == 0);
+        let numbers = [
+            ("LOG_MASTER", read(b"M>\0\0\0\x05\0").outcome),
+            ("LOG_SLAVE", read(b"S>\0\0\0\x05\0").outcome),
+            ("LOG_HIT", read(b"H!\0\0\0\x05\0").outcome),
+            ("UNKNOWN_MARK", read(b"M!\0\0\0\x05\0").refusal),
+            ("WRONG_LENGTH", read(b"H!\0\0\0\x05\x01\0").refusal),
+            ("CUT_OFF", read(b"M>\0\0\0\x05\x01").refusal),
+            ("WRONG_LENGTH", write(&[0; 67], 0).refusal),
+            ("NO_ROOM", write(&[], 6).refusal),
+            ("LOG_LONGEST", longest.expect("some room is enough") as u32),
+        ];
+        for (name, number) in numbers {
+            self.is(name, number);
+        }
+    }
+
     /// A desk of line 3 in each of its outcomes.
     fn desk(&mut self) {
         let mut ends = BothEnds::new(self.face);
@@ -266,6 +293,7 @@ fn numbers_of_the_header() {
     found.lengths();
     found.places();
     found.refusals();
+    found.logs();
     found.desk();
     found.master();
     assert_eq!(found.numbers, defined());

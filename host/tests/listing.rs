@@ -7,7 +7,7 @@ use host::exchange::exchange;
 use host::making::{any_form, capture, framed, noise, of_form, seal, DAMAGES};
 use host::random::Random;
 use host::reading::{forms_on, FORMS};
-use running::{compare, compare_from_file, on_line, SAMPLE};
+use running::{on_line, LISTING, SAMPLE};
 
 /// The number of lines of a listing that hold some words.
 fn lines_with(listing: &str, words: &str) -> usize {
@@ -18,20 +18,23 @@ fn lines_with(listing: &str, words: &str) -> usize {
 #[test]
 fn the_sample_of_document_01() {
     let sample = "1 0 ok A 0\n2 10 no 6 7\n";
-    assert_eq!(compare("sample", SAMPLE), sample);
-    assert_eq!(compare_from_file("sample from a file", SAMPLE), sample);
+    assert_eq!(LISTING.compare("sample", SAMPLE), sample);
+    assert_eq!(
+        LISTING.compare_from_file("sample from a file", SAMPLE),
+        sample
+    );
 }
 
 #[test]
 fn empty_input_and_every_first_byte() {
-    assert_eq!(compare("empty", b""), "no 15 0\n");
-    assert_eq!(compare_from_file("empty file", b""), "no 15 0\n");
+    assert_eq!(LISTING.compare("empty", b""), "no 15 0\n");
+    assert_eq!(LISTING.compare_from_file("empty file", b""), "no 15 0\n");
     for first in 0..=255u8 {
         let mut input = vec![first];
         let name = format!("first byte {first}");
-        let alone = compare(&name, &input);
+        let alone = LISTING.compare(&name, &input);
         input.extend(&SAMPLE[1..]);
-        let sample = compare(&name, &input);
+        let sample = LISTING.compare(&name, &input);
         if !b"123".contains(&first) {
             assert_eq!(
                 (alone.as_str(), sample.as_str()),
@@ -43,23 +46,23 @@ fn empty_input_and_every_first_byte() {
         }
     }
     let bad = [b"x", capture(&mut Random::seeded(4), 1, 300_000).as_slice()].concat();
-    assert_eq!(compare("first byte bad, long", &bad), "no 15 0\n");
+    assert_eq!(LISTING.compare("first byte bad, long", &bad), "no 15 0\n");
 }
 
 #[test]
 fn line_feeds_and_returns_alone() {
-    assert_eq!(compare("LF CR", b"1\n\r"), "1 0 no 1 0\n");
+    assert_eq!(LISTING.compare("LF CR", b"1\n\r"), "1 0 no 1 0\n");
     assert_eq!(
-        compare("LF behind the digit", b"1\n\n08N0N19B\r"),
+        LISTING.compare("LF behind the digit", b"1\n\n08N0N19B\r"),
         "1 1 ok N 0\n"
     );
     for bytes in [
         "\n", "\r", "\r\n", "\n\n", "\r\r", "\n\r\r", "\n\n\r", "\r\n\r\n",
     ] {
-        compare("LF and CR", &on_line(2, &[bytes.as_bytes()]));
+        LISTING.compare("LF and CR", &on_line(2, &[bytes.as_bytes()]));
     }
     let many = "\n\r".repeat(100_000);
-    let listing = compare("many LF CR", &on_line(3, &[many.as_bytes()]));
+    let listing = LISTING.compare("many LF CR", &on_line(3, &[many.as_bytes()]));
     assert!(listing.ends_with("\n100000 199998 no 1 0\n"));
 }
 
@@ -73,7 +76,7 @@ fn every_form_on_every_line() {
                 input.extend(of_form(&mut random, form, number));
             }
         }
-        let listing = compare("every form", &input);
+        let listing = LISTING.compare("every form", &input);
         for form in forms_on(line) {
             for number in 0..=1 {
                 let words = format!(" ok {} {number}", char::from(form.type_byte));
@@ -105,7 +108,7 @@ fn each_refusal_that_a_cut_telegram_can_have() {
                 &framed(b'N', b'0', b"N3"),
             ],
         );
-        let listing = compare("each refusal", &input);
+        let listing = LISTING.compare("each refusal", &input);
         for number in numbers {
             assert_eq!(lines_with(&listing, &format!("no {number}")), 1);
         }
@@ -132,7 +135,7 @@ fn every_byte_at_every_index_of_every_form() {
                 }
             }
         }
-        let listing = compare("every byte", &input);
+        let listing = LISTING.compare("every byte", &input);
         for number in [1, 4, 6, 7, 8, 9, 10, 11] {
             assert!(lines_with(&listing, &format!("no {number}")) > 0);
         }
@@ -154,7 +157,7 @@ fn every_pair_of_checksum_and_of_count_characters() {
             }
             input.extend(telegram);
         }
-        let listing = compare("every pair", &input);
+        let listing = LISTING.compare("every pair", &input);
         assert_eq!(lines_with(&listing, "ok A"), 1);
     }
 }
@@ -168,7 +171,7 @@ fn every_length_of_the_data_field() {
                 input.extend(framed(*type_byte, b'0', &vec![b'A'; length]));
             }
         }
-        compare("every length", &input);
+        LISTING.compare("every length", &input);
     }
 }
 
@@ -187,7 +190,7 @@ fn each_damage_on_each_line() {
                 }
                 input.extend(telegram);
             }
-            compare(name, &input);
+            LISTING.compare(name, &input);
         }
     }
 }
@@ -197,7 +200,7 @@ fn random_captures(line: u8) {
     for _ in 0..1000 {
         let length = random.below(4001);
         let input = capture(&mut random, line, length);
-        compare(&format!("random captures of line {line}"), &input);
+        LISTING.compare(&format!("random captures of line {line}"), &input);
     }
 }
 
@@ -222,8 +225,8 @@ fn random_noise_and_exchanges() {
     for round in 0..300 {
         let line = 1 + (round % 3) as u8;
         let length = random.below(4001);
-        compare("noise", &on_line(line, &[&noise(&mut random, length)]));
-        compare(
+        LISTING.compare("noise", &on_line(line, &[&noise(&mut random, length)]));
+        LISTING.compare(
             "exchange",
             &on_line(line, &[&exchange(&mut random, line, 100)]),
         );

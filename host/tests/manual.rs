@@ -34,7 +34,7 @@ fn the_manual_is_whole() {
     if !has("man") {
         return;
     }
-    for page in ["listing.1", "scenes.1", "in656.3"] {
+    for page in ["listing.1", "replay.1", "scenes.1", "in656.3"] {
         let output = Command::new("man")
             .args(["--warnings", "-E", "UTF-8", "-Tutf8", "-Z", "-l"])
             .arg(repository("man").join(page))

@@ -3,6 +3,7 @@
 mod machine;
 
 use host::listing::listing;
+use host::replay::replay;
 use machine::{repository, text};
 
 /// Lines as the README shows them, four spaces in.
@@ -57,6 +58,27 @@ fn the_refusals() {
     let rows = table.lines().take_while(|line| line.starts_with('|'));
     let rows = rows.filter_map(|row| row.split('|').nth(1)?.trim().parse().ok());
     assert_eq!(rows.collect::<Vec<usize>>(), numbers);
+}
+
+/// The rows of the kept log: one in the README, the first seven in docs/REPLAY.md; and the rows of
+/// the manual's example.
+#[test]
+fn the_replay() {
+    let log = std::fs::read(repository("samples/school.log")).expect("the sample");
+    let rows = replay(&log);
+    let first: Vec<&str> = rows.lines().take(7).collect();
+    assert!(text("docs/REPLAY.md").contains(&format!("\n\n{}\n", indented(&first.join("\n")))));
+    assert!(text("README.md").contains(&format!("\n\n{}\n", indented(first[1]))));
+    let cut = &log[..log.len() - 1];
+    let cut_off = replay(cut).lines().last().unwrap_or("").to_string();
+    assert!(
+        text("README.md").contains(&format!("`{cut_off}`")),
+        "{cut_off}"
+    );
+    let rows = replay(b"1M>\0\0\x04.\x0C\n10G0E2234C\rM>");
+    let page = text("man/replay.1").replace("\\e", "\\");
+    let example = "$ printf '1M>\\0\\0\\4.\\14\\n10G0E2234C\\rM>' | replay\n";
+    assert!(page.contains(&format!("{example}{rows}.Ed\n")));
 }
 
 /// The two lines of a listing.

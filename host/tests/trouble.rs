@@ -1,8 +1,9 @@
-//! What the listing program does where reading or writing fails, or is not ready: it says so on
-//! standard error, and `tools/run` ends with status 1.
+//! What the programs `listing` and `replay` do where reading or writing fails, or is not ready: they
+//! say so on standard error, and `tools/run` ends with status 1.
 
 use host::listing::listing;
 use host::program::command;
+use host::replay::replay;
 use std::fs::File;
 use std::io::{Read, Write};
 use std::os::fd::OwnedFd;
@@ -16,23 +17,44 @@ fn repository(path: &str) -> PathBuf {
     Path::new(env!("CARGO_MANIFEST_DIR")).join("..").join(path)
 }
 
-/// The command that runs the listing program.
-fn program() -> Command {
-    let path = repository("target/bin/listing");
-    assert!(path.is_file(), "build the program listing first");
+/// The programs that read an input of any length.
+const PROGRAMS: [&str; 2] = ["listing", "replay"];
+
+/// The command that runs a program.
+fn program(name: &str) -> Command {
+    let path = repository("target/bin").join(name);
+    assert!(path.is_file(), "build the program {name} first");
     command(path)
 }
 
-/// A sample, as standard input.
-fn sample() -> Stdio {
-    File::open(repository("samples/line1.cap"))
+/// A sample for a program, as standard input.
+fn sample(name: &str) -> Stdio {
+    let file = match name {
+        "replay" => "samples/school.log",
+        _ => "samples/line1.cap",
+    };
+    File::open(repository(file))
         .expect("the sample is there")
         .into()
 }
 
-/// A capture of this many telegrams.
-fn telegrams(count: usize) -> Vec<u8> {
-    [b"3".to_vec(), b"\n08A0AAA5\r".repeat(count)].concat()
+/// An input of this many telegrams for a program, and what it prints for it.
+fn telegrams(name: &str, count: usize) -> (Vec<u8>, String) {
+    let made = |record: &[u8]| [b"3", record.repeat(count).as_slice()].concat();
+    let (input, prints) = match name {
+        "replay" => {
+            let input = made(b"M>\0\0\0\x05\x0A\n08t0Bt3E\r");
+            let prints = replay(&input);
+            (input, prints)
+        }
+        _ => {
+            let input = made(b"\n08A0AAA5\r");
+            let prints = listing(&input);
+            (input, prints)
+        }
+    };
+    assert_eq!(prints.lines().count(), count);
+    (input, prints)
 }
 
 /// Checks that nothing was printed, that standard error has these words, and that the status is 1.
@@ -42,111 +64,117 @@ fn says(output: &Output, words: &str) {
     assert!(output.stdout.is_empty());
 }
 
-/// Runs the program from a shell that closes one of its descriptors.
-fn with_closed(redirection: &str) -> Output {
-    let run = program();
+/// Runs a program from a shell that closes one of its descriptors.
+fn with_closed(name: &str, redirection: &str) -> Output {
+    let run = program(name);
     Command::new("sh")
         .args(["-c", &format!("exec \"$0\" \"$@\" {redirection}")])
         .arg(run.get_program())
         .args(run.get_args())
-        .stdin(sample())
+        .stdin(sample(name))
         .output()
         .expect("the shell runs")
 }
 
 #[test]
 fn input_that_cannot_be_read() {
-    let folder = File::open(repository("samples")).expect("the folder is opened");
-    let output = program().stdin(folder).output().expect("it runs");
-    says(&output, "listing: reading: Is a directory\n");
-    says(
-        &with_closed("<&-"),
-        "listing: reading: Bad file descriptor\n",
-    );
+    for name in PROGRAMS {
+        let folder = File::open(repository("samples")).expect("the folder is opened");
+        let output = program(name).stdin(folder).output().expect("it runs");
+        says(&output, &format!("{name}: reading: Is a directory\n"));
+        let closed = with_closed(name, "<&-");
+        says(&closed, &format!("{name}: reading: Bad file descriptor\n"));
+    }
 }
 
 #[test]
 fn output_that_cannot_be_written() {
-    let full = File::options().write(true).open("/dev/full");
-    let output = program()
-        .stdin(sample())
-        .stdout(full.expect("/dev/full is there"))
-        .stderr(Stdio::piped())
-        .spawn()
-        .and_then(|child| child.wait_with_output())
-        .expect("it runs");
-    says(&output, "listing: writing: No space left on device\n");
-    says(
-        &with_closed(">&-"),
-        "listing: writing: Bad file descriptor\n",
-    );
+    for name in PROGRAMS {
+        let full = File::options().write(true).open("/dev/full");
+        let output = program(name)
+            .stdin(sample(name))
+            .stdout(full.expect("/dev/full is there"))
+            .stderr(Stdio::piped())
+            .spawn()
+            .and_then(|child| child.wait_with_output())
+            .expect("it runs");
+        let trouble = format!("{name}: writing: No space left on device\n");
+        says(&output, &trouble);
+        let closed = with_closed(name, ">&-");
+        says(&closed, &format!("{name}: writing: Bad file descriptor\n"));
+    }
 }
 
-/// When its reader goes away a signal ends the program, and `tools/run` passes its status on.
+/// When its reader goes away a signal ends a program, and `tools/run` passes its status on.
 #[test]
 fn reader_that_goes_away() {
-    let mut child = program()
-        .stdin(Stdio::piped())
-        .stdout(Stdio::piped())
-        .spawn()
-        .expect("it starts");
-    drop(child.stdout.take());
-    let mut input = child.stdin.take().expect("its input is a pipe");
-    let _ = input.write_all(&telegrams(60_000));
-    drop(input);
-    let status = child.wait().expect("it is waited for");
-    assert_eq!(status.code(), Some(128 + 13), "SIGPIPE");
+    for name in PROGRAMS {
+        let mut child = program(name)
+            .stdin(Stdio::piped())
+            .stdout(Stdio::piped())
+            .spawn()
+            .expect("it starts");
+        drop(child.stdout.take());
+        let mut input = child.stdin.take().expect("its input is a pipe");
+        let _ = input.write_all(&telegrams(name, 60_000).0);
+        drop(input);
+        let status = child.wait().expect("it is waited for");
+        assert_eq!(status.code(), Some(128 + 13), "SIGPIPE");
+    }
 }
 
 /// An output that is not ready for most of the time gets every line.
 #[test]
 fn output_that_is_not_ready() {
-    let input = telegrams(60_000);
-    let (mut ours, theirs) = UnixStream::pair().expect("a pair");
-    theirs.set_nonblocking(true).expect("it does not wait");
-    let mut child = program()
-        .stdin(Stdio::piped())
-        .stdout(OwnedFd::from(theirs))
-        .stderr(Stdio::piped())
-        .spawn()
-        .expect("it starts");
-    let mut pipe = child.stdin.take().expect("its input is a pipe");
-    let bytes = input.clone();
-    let feeding = std::thread::spawn(move || pipe.write_all(&bytes));
-    let (mut printed, mut piece) = (Vec::<u8>::new(), [0; 50_000]);
-    loop {
-        std::thread::sleep(Duration::from_millis(5));
-        match ours.read(&mut piece).expect("it is read") {
-            0 => break,
-            n => printed.extend(&piece[..n]),
+    for name in PROGRAMS {
+        let (input, prints) = telegrams(name, 60_000);
+        let (mut ours, theirs) = UnixStream::pair().expect("a pair");
+        theirs.set_nonblocking(true).expect("it does not wait");
+        let mut child = program(name)
+            .stdin(Stdio::piped())
+            .stdout(OwnedFd::from(theirs))
+            .stderr(Stdio::piped())
+            .spawn()
+            .expect("it starts");
+        let mut pipe = child.stdin.take().expect("its input is a pipe");
+        let feeding = std::thread::spawn(move || pipe.write_all(&input));
+        let (mut printed, mut piece) = (Vec::<u8>::new(), [0; 50_000]);
+        loop {
+            std::thread::sleep(Duration::from_millis(5));
+            match ours.read(&mut piece).expect("it is read") {
+                0 => break,
+                n => printed.extend(&piece[..n]),
+            }
         }
+        feeding.join().expect("it ends").expect("all is taken");
+        let output = child.wait_with_output().expect("it is waited for");
+        assert_eq!(String::from_utf8_lossy(&output.stderr), "");
+        assert_eq!(output.status.code(), Some(0));
+        assert!(printed == prints.as_bytes(), "all lines arrive");
     }
-    feeding.join().expect("it ends").expect("all is taken");
-    let output = child.wait_with_output().expect("it is waited for");
-    assert_eq!(String::from_utf8_lossy(&output.stderr), "");
-    assert_eq!(output.status.code(), Some(0));
-    assert!(printed == listing(&input).as_bytes(), "all lines arrive");
 }
 
 /// An input that has no bytes for most of the time is read to its end.
 #[test]
 fn input_that_is_not_ready() {
-    let input = telegrams(2_000);
-    let (mut ours, theirs) = UnixStream::pair().expect("a pair");
-    theirs.set_nonblocking(true).expect("it does not wait");
-    let child = program()
-        .stdin(OwnedFd::from(theirs))
-        .stdout(Stdio::piped())
-        .stderr(Stdio::piped())
-        .spawn()
-        .expect("it starts");
-    for piece in input.chunks(1_001) {
-        std::thread::sleep(Duration::from_millis(5));
-        ours.write_all(piece).expect("it is taken");
+    for name in PROGRAMS {
+        let (input, prints) = telegrams(name, 2_000);
+        let (mut ours, theirs) = UnixStream::pair().expect("a pair");
+        theirs.set_nonblocking(true).expect("it does not wait");
+        let child = program(name)
+            .stdin(OwnedFd::from(theirs))
+            .stdout(Stdio::piped())
+            .stderr(Stdio::piped())
+            .spawn()
+            .expect("it starts");
+        for piece in input.chunks(1_001) {
+            std::thread::sleep(Duration::from_millis(5));
+            ours.write_all(piece).expect("it is taken");
+        }
+        drop(ours);
+        let output = child.wait_with_output().expect("it is waited for");
+        assert_eq!(String::from_utf8_lossy(&output.stderr), "");
+        assert_eq!(output.status.code(), Some(0));
+        assert!(output.stdout == prints.as_bytes(), "all is read");
     }
-    drop(ours);
-    let output = child.wait_with_output().expect("it is waited for");
-    assert_eq!(String::from_utf8_lossy(&output.stderr), "");
-    assert_eq!(output.status.code(), Some(0));
-    assert!(output.stdout == listing(&input).as_bytes(), "all is read");
 }

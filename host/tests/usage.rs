@@ -30,7 +30,7 @@ fn the_programs_of_the_host() {
         (
             env!("CARGO_BIN_EXE_demo"),
             "1 33",
-            "demo LINE SEED SECONDS [PROGRAM]",
+            "demo LINE SEED SECONDS [PROGRAM [LOG [PANEL]]]",
         ),
         (env!("CARGO_BIN_EXE_losses"), "", "losses PROGRAM FILE.svg"),
         (env!("CARGO_BIN_EXE_samples"), "", "samples FOLDER"),
@@ -46,6 +46,7 @@ fn the_programs_of_the_host() {
 fn the_proved_programs() {
     for (name, usage) in [
         ("listing", "listing < CAPTURE"),
+        ("replay", "replay < LOG"),
         ("scenes", "scenes < SCRIPT"),
         ("cases", "cases < ROWS"),
         ("damage", "damage"),

@@ -1,33 +1,54 @@
-//! Shows an exchange: `demo LINE SEED SECONDS [PROGRAM]` runs both ends over a simulated line and
-//! prints the time line. The ends are those of the library where it is linked, else those of
-//! PROGRAM, which is `scenes`.
+//! Shows an exchange: `demo LINE SEED SECONDS [PROGRAM [LOG [PANEL]]]` runs both ends over a
+//! simulated line and prints the time line. The ends are those of the library where it is linked,
+//! else those of PROGRAM, which is `scenes`. LOG names a file for the log of what is shown. Where
+//! PANEL is `idle` the panel does nothing, and the line hits too; either may be empty.
 
 use host::arguments::{arguments, stop};
 use host::both::BothEnds;
-use host::demo::{asked, run, SHOWN};
+use host::demo::logged;
 use host::face::library;
+use host::logging::written;
+use host::odds::{asked, IDLE, SHOWN};
 use host::program::Program;
+use host::second::Second;
 
 fn main() {
     let words = arguments();
-    let ([line, seed, seconds], path) = match &words[..] {
-        [line, seed, seconds] => ([line, seed, seconds], None),
-        [line, seed, seconds, path] => ([line, seed, seconds], Some(path)),
-        _ => stop("usage: demo LINE SEED SECONDS [PROGRAM]"),
+    let [line, seed, seconds, rest @ ..] = &words[..] else {
+        usage()
     };
+    if rest.len() > 3 {
+        usage();
+    }
+    let word = |index: usize| rest.get(index).map_or("", String::as_str);
+    let (path, file, panel) = (word(0), word(1), word(2));
     let wanted = asked(line, seed, seconds);
     let (line, seed, seconds) = wanted.unwrap_or_else(|trouble| refuse(&trouble));
+    let odds = match panel {
+        "" => SHOWN,
+        "idle" => IDLE,
+        other => refuse(&format!("PANEL is idle or nothing, not '{other}'")),
+    };
     let duration = seconds * 1_000;
-    let (text, _) = match (library(), path) {
-        (Ok(face), _) => run(&mut BothEnds::new(face), &SHOWN, line, seed, duration),
-        (Err(_), Some(path)) => {
+    let (text, _, log) = match (library(), path) {
+        (Ok(face), _) => logged(&mut BothEnds::new(face), &odds, line, seed, duration),
+        (Err(why), "") => refuse(&format!("{why}: name the program scenes")),
+        (Err(_), path) => {
             let started = Program::start(path);
             let mut ends = started.unwrap_or_else(|why| refuse(&format!("{path}: {why}")));
-            run(&mut ends, &SHOWN, line, seed, duration)
+            logged(&mut ends, &odds, line, seed, duration)
         }
-        (Err(why), None) => refuse(&format!("{why}: name the program scenes")),
     };
+    if !file.is_empty() {
+        let bytes = written(library().unwrap_or(&Second), line, &log);
+        let done = std::fs::write(file, bytes);
+        done.unwrap_or_else(|why| refuse(&format!("{file}: {why}")));
+    }
     print!("{text}");
+}
+
+fn usage() -> ! {
+    stop("usage: demo LINE SEED SECONDS [PROGRAM [LOG [PANEL]]]")
 }
 
 /// Says what is wrong, and ends.

@@ -4,7 +4,8 @@
 
 use host::arguments::{arguments, stop};
 use host::demand::Item;
-use host::demo::{run, Odds};
+use host::demo::run;
+use host::odds::Odds;
 use host::program::Program;
 use std::fmt::Write;
 
@@ -22,8 +23,10 @@ fn shares(program: &mut Program, percent: usize) -> [f64; 4] {
     let odds = Odds {
         lost: percent,
         spoiled: percent,
+        hit: 0,
         of: 200,
         dead: 0..0,
+        panel: 400,
     };
     let mut ended = [0usize; 4];
     for line in 1..=3 {

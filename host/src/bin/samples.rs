@@ -1,8 +1,10 @@
 //! `samples FOLDER` writes captures of the kind that a help desk gets into a folder: line1.cap,
-//! line2.cap, line3.cap and noise.cap. Each begins with the line digit of the listing (rule P1).
+//! line2.cap, line3.cap and noise.cap, and the log school.log. Each begins with the line digit of
+//! the listing (rule P1).
 
 use host::arguments::{arguments, stop};
 use host::exchange::exchange;
+use host::logging::school;
 use host::making::{any_form, damaged, noise};
 use host::random::Random;
 use std::path::Path;
@@ -26,7 +28,7 @@ fn mostly_noise(random: &mut Random) -> Vec<u8> {
     bytes
 }
 
-/// Writes the four samples into the folder.
+/// Writes the samples into the folder.
 fn write_samples(folder: &Path) -> std::io::Result<()> {
     std::fs::create_dir_all(folder)?;
     for line in 1..=3u8 {
@@ -36,7 +38,8 @@ fn write_samples(folder: &Path) -> std::io::Result<()> {
         std::fs::write(folder.join(format!("line{line}.cap")), bytes)?;
     }
     let bytes = mostly_noise(&mut Random::seeded(656));
-    std::fs::write(folder.join("noise.cap"), bytes)
+    std::fs::write(folder.join("noise.cap"), bytes)?;
+    std::fs::write(folder.join("school.log"), school())
 }
 
 fn main() -> ExitCode {

@@ -1,5 +1,5 @@
 //! The second version behind the C face: what `include/in656.h` says of each call, made of the
-//! second version's reading, writing, cutting, desk and master.
+//! second version's reading, writing, cutting, desk, master and log.
 
 mod desks;
 mod masters;
@@ -8,6 +8,7 @@ use crate::blocks::{self, record_block, record_in};
 use crate::cutting::{next_telegram, Cutter, Heard as Item};
 use crate::desk::ROOM;
 use crate::face::{Answer, Call, Face, Lengths};
+use crate::logs::{entry_at, write, Entry, Mark, HEAD, UNKNOWN_MARK};
 use crate::numbers::{DESK_DONE, TELEGRAM};
 use crate::reading::{form_of, read, LONGEST};
 use crate::records::Record;
@@ -137,6 +138,33 @@ fn searching(bytes: &[u8], from: usize) -> Answer {
     }
 }
 
+/// The record of a log that begins at an index: its mark, its time, and where its bytes lie.
+fn log_reading(log: &[u8], from: usize) -> Answer {
+    match entry_at(log, from) {
+        Ok(Some(entry)) => Answer {
+            detail: entry.time,
+            place: (from + HEAD) as u64,
+            written: entry.bytes.len() as u64,
+            ..outcome(entry.mark.number())
+        },
+        Ok(None) => Answer::default(),
+        Err((refusal, place)) => refused(refusal, place),
+    }
+}
+
+fn log_writing(mark: u32, time: u32, bytes: &[u8], out: &mut [u8]) -> Answer {
+    let Some(mark) = Mark::numbered(mark) else {
+        return refused(UNKNOWN_MARK, 0);
+    };
+    match write(&Entry { mark, time, bytes }, out) {
+        Ok(length) => Answer {
+            written: length as u64,
+            ..Answer::default()
+        },
+        Err(refusal) => refused(refusal, 0),
+    }
+}
+
 /// The room that a call has: none where the record block has another length.
 fn room(out: &[u8], block: &[u8]) -> usize {
     if block.len() == blocks::RECORD {
@@ -200,6 +228,8 @@ impl Face for Second {
                     master.hear(time, room, frame)
                 })
             }
+            Call::LogRead(log, from) => log_reading(log, from),
+            Call::LogWrite(mark, time, bytes) => log_writing(mark, time, bytes, out),
         }
     }
 }
