@@ -27,7 +27,7 @@ extern "C" {
 #define IN656_RECORD_LENGTH 64u   /* a record block */
 #define IN656_GATHERER_LENGTH 67u /* a gatherer's state */
 #define IN656_DESK_LENGTH 653u    /* a desk's state */
-#define IN656_MASTER_LENGTH 76u   /* a master's state */
+#define IN656_MASTER_LENGTH 77u   /* a master's state */
 
 /*
  * A record block: its type letter; ten values of four bytes each, the highest byte first, in the order of its packets,
@@ -176,7 +176,11 @@ in656_result in656_desk_hear(uint8_t *state, size_t state_length, uint32_t time,
 in656_result in656_master_start(uint8_t *state, size_t state_length, uint32_t line, uint32_t time);
 /* Offers a record: writes its telegram to the front of out, to be sent at once. Refusals: 15, 14 (out under 66 bytes), 16, 12, 13. */
 in656_result in656_master_offer(uint8_t *state, size_t state_length, uint32_t time, const uint8_t *record, size_t record_length, uint8_t *out, size_t out_length);
-/* Time passes: sends again, polls, gives up, or does nothing. Refusals: 15, 14. */
+/*
+ * Time passes: sends again, polls, gives up, or does nothing. It polls where nothing was sent for T0: on line 1 with r for B after 20 seconds,
+ * on line 2 with r for 5 after 5 seconds, on line 3 with t after 10 seconds, or after 20 while the last A that answered t carried X
+ * (the driver's key in position Operation). Refusals: 15, 14.
+ */
 in656_result in656_master_tick(uint8_t *state, size_t state_length, uint32_t time, uint8_t *out, size_t out_length);
 /* Hears a frame; may send again at once. record: a block, filled where the frame is an answer that reads as a record. Refusals: 15, 14. */
 in656_result in656_master_hear(uint8_t *state, size_t state_length, uint32_t time, const uint8_t *frame, size_t frame_length, uint8_t *out, size_t out_length, uint8_t *record, size_t record_length);

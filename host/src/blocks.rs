@@ -10,7 +10,7 @@ use crate::records::Record;
 pub const RECORD: usize = 64;
 pub const GATHERER: usize = 67;
 pub const DESK: usize = 653;
-pub const MASTER: usize = 76;
+pub const MASTER: usize = 77;
 /// The bytes of a state's stored answer, and of a gathered telegram.
 const ANSWER: usize = 66;
 /// The places of a desk's queue.
@@ -157,6 +157,7 @@ pub fn master_in(block: &[u8]) -> Option<Master> {
     let mut rest = Rest(block);
     let (line, good, number, count) = (rest.byte(), rest.flag()?, rest.byte(), rest.byte());
     let (t0, t2) = (rest.number(), rest.number());
+    let operation = rest.flag()?;
     let record = rest.record()?;
     Some(Master {
         line,
@@ -166,6 +167,7 @@ pub fn master_in(block: &[u8]) -> Option<Master> {
         record,
         t0,
         t2,
+        operation,
     })
 }
 
@@ -174,6 +176,7 @@ pub fn master_block(master: &Master) -> Vec<u8> {
     let mut block = vec![master.line, master.good.into(), master.number, master.count];
     block.extend(master.t0.to_be_bytes());
     block.extend(master.t2.to_be_bytes());
+    block.push(master.operation.into());
     block.extend(record_block(&master.record));
     block
 }

@@ -121,6 +121,10 @@ impl BothEnds<'_> {
             "tick" => self.on_desk(Call::DeskTick(row.number(2))),
             "queue" => self.on_desk(Call::DeskQueue(&block)),
             "set" => self.on_desk(Call::DeskSet(&block)),
+            "key" => {
+                let key = meant(row.rest(2)).first().copied().unwrap_or(0);
+                self.on_desk(Call::DeskKey(key.into()))
+            }
             _ => self.on_desk(Call::DeskHear(row.number(2), &meant(row.rest(4)))),
         };
         let lost = answer.lost == 1;

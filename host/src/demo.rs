@@ -149,8 +149,18 @@ impl<E: Ends> Run<'_, E> {
         self.master(&answer, "");
     }
 
+    /// The driver turns the key (001 8.8).
+    fn turn_key(&mut self) {
+        let key = char::from(self.random.one_of(b"AXY"));
+        self.ends.call(&format!("desk key {key}"));
+        self.say("P", &format!("turns the key to {key}"), "");
+    }
+
     fn panel(&mut self) {
         let line = self.line;
+        if line == 3 && self.random.one_in(4) {
+            return self.turn_key();
+        }
         let reading = self.record(|type_byte| Some(type_byte) == data_type(line));
         let record = shown(&Record::read(line, &reading));
         let (call, what) = match self.random.below(3) {

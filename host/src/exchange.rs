@@ -1,5 +1,5 @@
 //! A plausible exchange of a master and a slave on a line, as a help desk gets it captured:
-//! rules L1 to L3, M1 to M17 and D1 to D16, without their times.
+//! rules L1 to L3, M1 to M18 and D1 to D16, without their times.
 
 use crate::making::{framed, noise, of_form};
 use crate::random::Random;

@@ -4,12 +4,14 @@
 use std::sync::OnceLock;
 
 /// The names of the faults.
-pub const FAULTS: [&str; 5] = [
+pub const FAULTS: [&str; 7] = [
     "lower case taken",
     "telegram goes on over LF",
     "fault stored",
     "queue popped on a repeat",
     "number changed",
+    "key taken from every A",
+    "T0 restarted by the key",
 ];
 
 /// Whether this fault is switched on.

@@ -57,6 +57,12 @@ pub fn of_form(random: &mut Random, form: &Form, number: u8) -> Vec<u8> {
     framed(form.type_byte, number, &field)
 }
 
+/// An A with the number of what was sent, and mostly a key position of line 3.
+pub fn approved(random: &mut Random, sent: &[u8]) -> Vec<u8> {
+    let number = sent.get(4).copied().unwrap_or(b'0');
+    framed(b'A', number, &[b'A', random.one_of(b"AXXYAXXYAXXYB")])
+}
+
 /// A valid telegram of any form on a line.
 pub fn any_form(random: &mut Random, line: u8) -> Vec<u8> {
     let forms: Vec<&Form> = forms_on(line).collect();

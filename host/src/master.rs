@@ -1,4 +1,4 @@
-//! The master's end of a line: rules M1 to M17, E1 to E12 and R12 to R16.
+//! The master's end of a line: rules K4, M1 to M18, E1 to E12 and R12 to R16.
 
 use crate::clock::run_out;
 use crate::desk::{Refusal, ROOM};
@@ -6,8 +6,7 @@ use crate::faults::is_on;
 use crate::reading::read;
 use crate::records::{by_master, data_type, Record};
 
-/// T0 and T2, in milliseconds.
-const T0: u32 = 20_000;
+/// T2, in milliseconds.
 const T2: u32 = 2_000;
 
 /// Why a hearing was ignored.
@@ -34,7 +33,8 @@ pub enum Told {
     Ignored(Why),
 }
 
-/// The master's state; a count of 0 is free.
+/// The master's state; a count of 0 is free. `operation`: the last A that answered t on line 3
+/// carried X, so that the driver's key is in position Operation (001 8.6, 8.8).
 #[derive(Debug, Clone)]
 pub struct Master {
     pub line: u8,
@@ -44,6 +44,7 @@ pub struct Master {
     pub record: Record,
     pub t0: u32,
     pub t2: u32,
+    pub operation: bool,
 }
 
 impl Master {
@@ -63,6 +64,7 @@ impl Master {
             record: Record::with(b't', b't'),
             t0: now,
             t2: now,
+            operation: false,
         };
         (master, told)
     }
@@ -78,10 +80,30 @@ impl Master {
     /// 15 where the state is out of its ranges, then 14 where there is too little room.
     fn refuses(&self, room: usize) -> Option<Refusal> {
         let numbers = matches!(self.line, 1..=3) && self.number < 2 && self.count < 4;
-        if !numbers || (self.count != 0 && self.may_send(&self.record).is_some()) {
+        let flag = self.line == 3 || !self.operation;
+        if !numbers || !flag || (self.count != 0 && self.may_send(&self.record).is_some()) {
             return Some(15);
         }
         (room < ROOM).then_some(14)
+    }
+
+    /// T0, in milliseconds: 001 3.2.1 and 6.9, 7.3, 8.6.
+    fn poll_time(&self) -> u32 {
+        match self.line {
+            1 => 20_000,
+            2 => 5_000,
+            _ if self.operation => 20_000,
+            _ => 10_000,
+        }
+    }
+
+    /// What the line is polled with: 001 6.9, 7.3, 8.6.
+    fn poll(&self) -> Record {
+        match self.line {
+            1 => Record::with(b'r', b'B'),
+            2 => Record::with(b'r', b'5'),
+            _ => Record::with(b't', b't'),
+        }
     }
 
     /// Every sending restarts T0 and T2.
@@ -140,13 +162,10 @@ impl Master {
             }
             return step;
         }
-        if !run_out(now, self.t0, T0) {
+        if !run_out(now, self.t0, self.poll_time()) {
             return (Told::Nothing, Vec::new());
         }
-        self.record = match self.line {
-            1 => Record::with(b'r', b'B'),
-            _ => Record::with(b't', b't'),
-        };
+        self.record = self.poll();
         let bytes = self.send(now);
         (Told::Polled(1), bytes)
     }
@@ -180,9 +199,25 @@ impl Master {
         self.count = 0;
         self.number = 1 - self.number;
         quiet(match heard {
-            Ok(record) if self.permits(record.type_byte) => Told::Answered(record, count),
+            Ok(record) if self.permits(record.type_byte) => {
+                self.note_key(&record, now);
+                Told::Answered(record, count)
+            }
             other => Told::OtherKind(other, count),
         })
+    }
+
+    /// An A that answers t on line 3 says where the driver's key is; T0 goes on (001 8.6, 8.8).
+    fn note_key(&mut self, answer: &Record, now: u32) {
+        let asked = self.record.type_byte == b't' || is_on("key taken from every A");
+        if self.line != 3 || !asked || answer.type_byte != b'A' {
+            return;
+        }
+        let operation = *answer == Record::with(b'A', b'X');
+        if is_on("T0 restarted by the key") && operation != self.operation {
+            self.t0 = now;
+        }
+        self.operation = operation;
     }
 
     /// The types permitted as an answer to what was sent.

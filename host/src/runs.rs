@@ -97,6 +97,10 @@ impl Run<'_> {
                 let answer = self.ends.on_desk(Call::DeskTick(now));
                 self.noted(answer);
             }
+            18 if self.line == 3 && self.random.one_in(2) => {
+                let key = self.random.one_of(b"AXY");
+                self.ends.on_desk(Call::DeskKey(key.into()));
+            }
             _ => {
                 let block =
                     record_block(&record(&mut self.random, self.line, data_type(self.line)));

@@ -154,6 +154,7 @@ impl Bench {
                     "line" => master.line = value,
                     "number" => master.number = value,
                     "count" => master.count = value,
+                    "operation" => master.operation = value != 0,
                     _ => return none(),
                 }
                 return format!("  altered{}\n", self.master_state());

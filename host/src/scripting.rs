@@ -1,17 +1,33 @@
 //! Makes scripts of calls on both ends, mostly of exchanges that fit together, with lost and
 //! damaged frames, refused calls, states out of their ranges and clocks that jump.
 
-use crate::making::{any_form, damaged, noise, DAMAGES};
+use crate::clock::elapsed;
+use crate::making::{any_form, approved, damaged, noise, DAMAGES};
+use crate::master::Master;
 use crate::random::Random;
 use crate::reading::{forms_on, read};
 use crate::records::{data_type, Record};
 use crate::script::Bench;
 use crate::words::{in_row, shown};
 
-/// Steps of the clock: short ones, and those next to the limits of T2, T0 and T1.
-pub const STEPS: [u32; 12] = [
-    0, 7, 90, 400, 1_999, 2_000, 2_001, 19_999, 20_000, 27_999, 28_000, 40_000,
+/// Steps of the clock: short ones, and those next to the limits of T2, of T0 on each line, and of T1.
+pub const STEPS: [u32; 16] = [
+    0, 7, 90, 400, 1_999, 2_000, 2_001, 4_999, 5_000, 9_999, 10_000, 19_999, 20_000, 27_999,
+    28_000, 40_000,
 ];
+
+/// The limits of T0, and the times before them.
+const POLLS: [u32; 6] = [4_999, 5_000, 9_999, 10_000, 19_999, 20_000];
+
+/// The time of a master's tick: while it is free mostly next to a limit of T0, where that is not
+/// over, else now.
+pub fn tick_time(random: &mut Random, now: u32, master: &Master) -> u32 {
+    let limit = POLLS[random.below(POLLS.len())];
+    if master.count == 0 && elapsed(now, master.t0) <= limit && !random.one_in(4) {
+        return master.t0.wrapping_add(limit);
+    }
+    now
+}
 
 /// What a clock is set to: zero, any time, or shortly before it starts again at zero.
 pub const CLOCKS: [u32; 4] = [0, 1_000_000, 4_294_960_000, u32::MAX];
@@ -135,7 +151,7 @@ impl Maker<'_> {
     /// are is put right again, since no rule says which records those would be.
     fn alter(&mut self) -> String {
         let queued = self.bench.desk.queued;
-        match self.random.below(9) {
+        match self.random.below(11) {
             0 => format!("desk alter line {}", self.random.byte()),
             1 => format!("desk alter good {}", self.random.below(2)),
             2 => format!("desk alter last {}", self.random.below(4)),
@@ -148,7 +164,11 @@ impl Maker<'_> {
             5 => format!("desk alter key {}", self.random.one_of(b"AXYB")),
             6 => format!("master alter line {}", self.random.byte()),
             7 => format!("master alter number {}", self.random.below(4)),
-            _ => format!("master alter count {}", self.random.from_to(4, 255)),
+            8 => format!("master alter count {}", self.random.from_to(4, 255)),
+            _ => {
+                let flag = [0, 1, 2, 255, 256, 257][self.random.below(6)];
+                format!("master alter operation {flag}")
+            }
         }
     }
 
@@ -165,10 +185,14 @@ impl Maker<'_> {
         let data = data_type(line);
         let row = match self.random.below(100) {
             0..=15 => {
-                let record = self.record(line, None);
+                let wanted = self.random.one_in(4).then_some(b't');
+                let record = self.record(line, wanted);
                 format!("master offer {now} {room} {record}")
             }
-            16..=25 => format!("master tick {now} {room}"),
+            16..=25 => {
+                self.now = tick_time(self.random, now, &self.bench.master);
+                format!("master tick {} {room}", self.now)
+            }
             26..=30 => format!("desk tick {now}"),
             31..=55 => {
                 let sent = self.bench.master_sent.clone();
@@ -176,8 +200,12 @@ impl Maker<'_> {
                 format!("desk hear {now} {room} {frame}")
             }
             56..=78 => {
-                let sent = self.bench.desk_sent.clone();
-                let frame = self.frame(line, sent);
+                let frame = if self.random.one_in(6) {
+                    in_row(&approved(self.random, &self.bench.master_sent))
+                } else {
+                    let sent = self.bench.desk_sent.clone();
+                    self.frame(line, sent)
+                };
                 format!("master hear {now} {room} {frame}")
             }
             79..=85 => format!("desk queue {}", self.record(line, data)),

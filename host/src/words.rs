@@ -144,7 +144,8 @@ pub fn desk_whole(desk: &Desk) -> String {
 
 /// The rest of a master's state.
 pub fn master_whole(master: &Master) -> String {
-    let text = format!("line {}, T0 {}", master.line, master.t0);
+    let operation = if master.operation { ", operation" } else { "" };
+    let text = format!("line {}, T0 {}{operation}", master.line, master.t0);
     if master.count == 0 {
         return text;
     }

@@ -130,6 +130,35 @@ fn calm_exchanges() {
     assert!(calm > 10, "most of them give none up");
 }
 
+/// The polls of demonstrations by the second version: each is the line's own, and comes with the first
+/// tick at which T0 has run out.
+#[test]
+fn polls_come_in_time() {
+    let mut seen = [0; 3];
+    let lines = [
+        (1, [20_000, 20_000], "BB"),
+        (2, [5_000, 5_000], "B5"),
+        (3, [10_000, 20_000], "Bt"),
+    ];
+    for ((line, limits, poll), seen) in lines.into_iter().zip(&mut seen) {
+        for seed in 0..100 {
+            let (text, _) = run(&mut Bench::new(), &SHOWN, line, seed, 90_000);
+            let mut last = 0;
+            for row in text.lines().filter(|row| row.get(10..12) == Some("M>")) {
+                let digits = row.get(..8).unwrap_or("").replace(['.', ' '], "");
+                let now: u32 = digits.parse().expect("a time");
+                if row.ends_with("a poll") {
+                    let due = limits.map(|limit: u32| (last + limit).next_multiple_of(50));
+                    assert!(due.contains(&now) && row.contains(poll), "{row}");
+                    *seen += 1;
+                }
+                last = now;
+            }
+        }
+    }
+    assert!(seen[1] > 50 && seen[2] > 2, "{seen:?}");
+}
+
 /// What the judge says of a history, as letters: y or n for each sentence.
 fn letters(history: &[Item]) -> String {
     let letter = |(_, holds): &(&str, bool)| if *holds { 'y' } else { 'n' };

@@ -235,32 +235,32 @@ impl Found<'_> {
         let no = |number| telegram(b'N', number, b"N1");
         let calls = [
             ("NOTHING", "", Call::MasterStart(3, 0)),
-            ("NOTHING", "", Call::MasterTick(19_999)),
-            ("IGNORED", "FREE", Call::MasterHear(19_999, &no(0))),
-            ("SENT", "POLL", Call::MasterTick(20_000)),
-            ("IGNORED", "CONTENTS", Call::MasterHear(20_000, &[])),
-            ("IGNORED", "OTHER_NUMBER", Call::MasterHear(20_000, &no(1))),
-            ("IGNORED", "RUN_OUT", Call::MasterHear(22_000, &no(0))),
-            ("SENT", "AGAIN", Call::MasterTick(22_000)),
-            ("SENT", "AGAIN", Call::MasterTick(24_000)),
-            ("GIVEN_UP", "SILENCE", Call::MasterTick(26_000)),
-            ("SENT", "OFFERED", Call::MasterOffer(26_000, &offered)),
-            ("SENT", "AGAIN", Call::MasterHear(26_000, &no(0))),
-            ("SENT", "AGAIN", Call::MasterHear(26_000, &no(0))),
-            ("GIVEN_UP", "REJECTED", Call::MasterHear(26_000, &no(0))),
-            ("SENT", "OFFERED", Call::MasterOffer(26_000, &offered)),
+            ("NOTHING", "", Call::MasterTick(9_999)),
+            ("IGNORED", "FREE", Call::MasterHear(9_999, &no(0))),
+            ("SENT", "POLL", Call::MasterTick(10_000)),
+            ("IGNORED", "CONTENTS", Call::MasterHear(10_000, &[])),
+            ("IGNORED", "OTHER_NUMBER", Call::MasterHear(10_000, &no(1))),
+            ("IGNORED", "RUN_OUT", Call::MasterHear(12_000, &no(0))),
+            ("SENT", "AGAIN", Call::MasterTick(12_000)),
+            ("SENT", "AGAIN", Call::MasterTick(14_000)),
+            ("GIVEN_UP", "SILENCE", Call::MasterTick(16_000)),
+            ("SENT", "OFFERED", Call::MasterOffer(16_000, &offered)),
+            ("SENT", "AGAIN", Call::MasterHear(16_000, &no(0))),
+            ("SENT", "AGAIN", Call::MasterHear(16_000, &no(0))),
+            ("GIVEN_UP", "REJECTED", Call::MasterHear(16_000, &no(0))),
+            ("SENT", "OFFERED", Call::MasterOffer(16_000, &offered)),
             (
                 "ANSWERED",
                 "",
-                Call::MasterHear(26_000, &telegram(b'A', 0, b"AA")),
+                Call::MasterHear(16_000, &telegram(b'A', 0, b"AA")),
             ),
-            ("SENT", "OFFERED", Call::MasterOffer(26_000, &offered)),
+            ("SENT", "OFFERED", Call::MasterOffer(16_000, &offered)),
             (
                 "OTHER_KIND",
                 "",
-                Call::MasterHear(26_000, &telegram(b'K', 1, K)),
+                Call::MasterHear(16_000, &telegram(b'K', 1, K)),
             ),
-            ("SENT", "OFFERED", Call::MasterOffer(26_000, &offered)),
+            ("SENT", "OFFERED", Call::MasterOffer(16_000, &offered)),
         ];
         for (outcome, detail, call) in calls {
             let answer = ends.on_master(call);
@@ -271,7 +271,7 @@ impl Found<'_> {
         }
         self.is(
             "NOT_FREE",
-            ends.on_master(Call::MasterOffer(26_000, &offered)).refusal,
+            ends.on_master(Call::MasterOffer(16_000, &offered)).refusal,
         );
     }
 }

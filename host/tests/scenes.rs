@@ -1,9 +1,10 @@
 //! Compares the built program `scenes` with the second version of the two ends: rules
-//! E1 to E12, M1 to M17 and D1 to D16, and docs/SCENES.md for the rows.
+//! E1 to E12, M1 to M18 and D1 to D16, and docs/SCENES.md for the rows.
 
+use host::clock::elapsed;
 use host::program::said;
 use host::random::Random;
-use host::script::run;
+use host::script::{run, Bench, Row};
 use host::scripting::script;
 use std::path::{Path, PathBuf};
 
@@ -74,12 +75,20 @@ fn made_scripts_reach() {
         "fault, ",
         "sent again, count 2",
         "sent again, count 3",
-        "polled, count 1",
+        "polled, count 1, 10 bytes <08r0BB72>",
+        "polled, count 1, 10 bytes <08r1B57E>",
+        "polled, count 1, 10 bytes <08t0Bt3E>",
         "answered, count 1",
         "answered, count 2",
         "answered, count 3",
         "another kind, count 1, no 8",
         "another kind, count 1, K",
+        "another kind, count 1, A 88",
+        "answered, count 1, A 88",
+        "answered, count 1, A 89",
+        ", operation; line good",
+        ", operation; line lost",
+        ", operation, T2 ",
         "given up, silence, count 3",
         "given up, rejected, count 3",
         "ignored, free",
@@ -99,4 +108,41 @@ fn made_scripts_reach() {
     ] {
         assert!(texts.contains(what), "{what} does not occur");
     }
+}
+
+/// The made scripts have ticks of a free master just before and just when T0 runs out, on each line,
+/// on line 3 also in position Operation.
+#[test]
+fn made_scripts_reach_the_polls() {
+    let wanted = [
+        (1, false, 20_000),
+        (2, false, 5_000),
+        (3, false, 10_000),
+        (3, true, 20_000),
+    ];
+    let mut polled = [[0; 2]; 4];
+    let mut random = Random::seeded(2_000);
+    for line in 1..=3 {
+        let mut bench = Bench::new();
+        for text in script(&mut random, line, 60_000).lines() {
+            let (row, before) = (Row { text }, bench.master.clone());
+            let came = bench.row(text);
+            if !text.starts_with("master tick") || before.count != 0 || came.contains("  no ") {
+                continue;
+            }
+            let passed = elapsed(row.number(2), before.t0);
+            for (index, (line, operation, limit)) in wanted.into_iter().enumerate() {
+                let same = (before.line, before.operation) == (line, operation);
+                if same && (passed == limit || passed + 1 == limit) {
+                    let sent = usize::from(came.contains("polled"));
+                    assert_eq!(sent, usize::from(passed == limit), "{text}: {came}");
+                    polled[index][sent] += 1;
+                }
+            }
+        }
+    }
+    assert!(
+        polled.iter().flatten().all(|count| *count > 4),
+        "{polled:?}"
+    );
 }

@@ -24,7 +24,7 @@ use Rattle.masterhearing.specs.Hearing.{hearOf}
 use Rattle.master.specs.declared.state.Master.{Master}
 use Rattle.master.specs.Answers.{Which, again}
 use Rattle.master.proofs.Ranges.{numbered, sendable-permits}
-use Rattle.conduct.specs.Master.Calls.{Call, offers, ticks, hears, outputOf, after, FirstSending, offered, polled}
+use Rattle.conduct.specs.Master.Calls.{Call, offers, ticks, hears, callTime, outputOf, after, FirstSending, offered, polled}
 use Rattle.conduct.proofs.Master.Calls.{rejects, brings, Quiet, barred, idle, unheard, Ends, permitted, strange, Does, stays, begins, repeats, ends, givesUp, does}
 use Rattle.conduct.proofs.Master.Kept.{keeps, start-ranged}
 use Rattle.protocol.specs.Ends.{Did, nothing, got}
@@ -81,15 +81,15 @@ module _ (m : Master) (h : inRanges m ≡ true) where
   acted : (call : Call) (turn : Behind) → (Hears call → ⊥) → Does m call turn → MActs read (FromMaster (m .line)) (mview m) (didOf [] (turn .1 .0) (turn .1 .1)) (mview (turn .0))
   unfolding sendingOf
   acted call turn n (stays told q) = rw (quiet [] told (outputOf call) q) MActs.rests
-  acted call turn n (begins sending rec at offered f s r) =
+  acted call turn n (begins sending rec offered f s r) =
       rw (f, sent-bytes rec (outputOf call))
       (MActs.sends (written-good (m .line) rec (m .number .0) (sendable-permits (m .line) rec s) (numbered m h)) (from-master (m .line) rec (m .number .0) s (numbered m h)))
-  acted call turn n (begins sending rec at polled f s r) =
+  acted call turn n (begins sending rec polled f s r) =
       rw (f, sent-bytes rec (outputOf call))
       (MActs.sends (written-good (m .line) rec (m .number .0) (sendable-permits (m .line) rec s) (numbered m h)) (from-master (m .line) rec (m .number .0) s (numbered m h)))
-  acted call turn n (repeats g at f x r) =
-      rw (f, resent-view g at (outputOf call), sent-bytes (m .rec) (outputOf call)) MActs.resends
-  acted call turn n (ends told e f (brings a b)) = absurd (n tt)
+  acted call turn n (repeats g f x r) =
+      rw (f, resent-view g (callTime call) (outputOf call), sent-bytes (m .rec) (outputOf call)) MActs.resends
+  acted call turn n (ends told o e f (brings a b)) = absurd (n tt)
   acted call turn n (givesUp cause f c) = rw f MActs.gives
 
   -- a hearing sends no first time, and an end is reported
@@ -97,27 +97,27 @@ module _ (m : Master) (h : inRanges m ≡ true) where
   first-unheard offered q = q
   first-unheard polled q = q
 
-  ended : (heard : List ℕ) (told : Told) (out : List ℕ) → Ends (m .count) told → didOf heard told out ≡ got heard (m .count)
-  ended heard told out permitted = refl
-  ended heard told out strange = refl
+  ended : (heard : List ℕ) (told : Told) (o : Bool) (out : List ℕ) → Ends m told o → didOf heard told out ≡ got heard (m .count)
+  ended heard told o out permitted = refl
+  ended heard told o out strange = refl
 
   heard : (at : ℕ) (bytes out : List ℕ) (turn : Behind) → Does m (hears at bytes out) turn →
       MHears (nak (m .line)) bytes (read bytes) (mview m) (didOf bytes (turn .1 .0) (turn .1 .1)) (mview (turn .0))
   unfolding sendingOf
   heard at bytes out turn (stays told q) = rw (quiet bytes told out q) MHears.ignores
-  heard at bytes out turn (begins sending rec t q f s r) = absurd (first-unheard q tt)
-  heard at bytes out turn (repeats g t f x r) =
-      rw (f, resent-view g t out, sent-bytes (m .rec) out) MHears.resends
-  heard at bytes out turn (ends told e f (brings a b)) =
-      rw (f, ended bytes told out e, good-frame bytes a, changed-other (m .number .0) (numbered m h)) (MHears.takes b)
+  heard at bytes out turn (begins sending rec q f s r) = absurd (first-unheard q tt)
+  heard at bytes out turn (repeats g f x r) =
+      rw (f, resent-view g at out, sent-bytes (m .rec) out) MHears.resends
+  heard at bytes out turn (ends told o e f (brings a b)) =
+      rw (f, ended bytes told o out e, good-frame bytes a, changed-other (m .number .0) (numbered m h)) (MHears.takes b)
   heard at bytes out turn (givesUp cause f c) = rw f MHears.gives
 
   same-line : (call : Call) (turn : Behind) → Does m call turn → turn .0 .line ≡ m .line
   unfolding sendingOf
   same-line call turn (stays told q) = refl
-  same-line call turn (begins sending rec at q f s r) = refl
-  same-line call turn (repeats g at f x r) = refl
-  same-line call turn (ends told e f b) = refl
+  same-line call turn (begins sending rec q f s r) = refl
+  same-line call turn (repeats g f x r) = refl
+  same-line call turn (ends told o e f b) = refl
   same-line call turn (givesUp cause f c) = refl
 
 -- the same on one line and on another that is equal to it

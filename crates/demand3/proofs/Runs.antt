@@ -19,9 +19,10 @@ use Rattle.replying.specs.Fitting as u
 use Rattle.replying.specs.Replying as q
 use Rattle.replying.specs.Waiting as k
 use Rattle.masterrules.specs.Rules.{pollOf, isFailure, answersTo, permittedAnswer}
+use Rattle.masterrules.specs.Times.{reduces, operationFits, t0Of, operationAfter}
 use Rattle.judging.specs.Judging.{answeredBy, judgeOf}
-use Rattle.master.specs.State.{sendable, inRanges, callFault, startOf}
-use Rattle.master.specs.Sending.{t0Limit, sendingOf, failedOf, offerFault, offerOf, pollingOf, waitingOf, tickOf}
+use Rattle.master.specs.State.{sendable, fitsFree, inRanges, callFault, startOf}
+use Rattle.master.specs.Sending.{sendingOf, failedOf, offerFault, offerOf, pollingOf, waitingOf, tickOf}
 use Rattle.masterhearing.specs.Hearing.{hearOf}
 use Rattle.desk.specs.State as s
 use Rattle.desk.specs.Panel as p
@@ -32,13 +33,13 @@ computed : Runs × AllowedRuns
 unfolding numeralOn numberOn leftOf inSet total checksumOf checkText lineOf forms onLine lookIn typeRow formOf dataType slotsIn countOf slotsOf
     widthIn widthOf recordOf leadOf isDecimal permits ruled permitsNumber permitsRecord textOf narrow valueOf numberWidth permittedFrom numberFits
     permitted permitsValue permitsValues countText summedOf fieldOf frameOf f.bodyOf frameChecks dataOf outside wrongLetter badValue valuesIn
-    misshapen fieldChecks recordIn checks readingOf telegramOf runOut sendable inRanges callFault startOf t0Limit pollOf isFailure answersTo
+    misshapen fieldChecks recordIn checks readingOf telegramOf runOut operationFits sendable fitsFree inRanges callFault startOf t0Of reduces operationAfter pollOf isFailure answersTo
     permittedAnswer answeredBy judgeOf sentOf sendingOf failedOf offerFault offerOf pollingOf waitingOf tickOf hearOf u.mayReply u.keyFits k.keptFits
     u.wantedFits s.numbersFit s.recordsFit s.inRanges s.startOf p.losesLine p.notedOf p.tickOf p.recordFault p.queueOf p.setOf p.keyFault p.keyOf
     r.repeats r.matterIn r.goodFrame r.badFrame r.rulingIn q.keyOn q.polledOf h.faultedOf h.repeatedOf h.handledOf h.heardOf h.hearOf
 computed = (
-  ((refl, (refl, (refl, (refl, (refl, (refl, tt)))))), (refl, (refl, tt)), refl, refl),
-  ((tt, (tt, (tt, (tt, (tt, (tt, (tt, tt))))))), λ q. q),
+  ((refl, (refl, (refl, (refl, (refl, (refl, (refl, (refl, tt)))))))), (refl, (refl, tt)), refl, refl),
+  ((tt, (tt, (tt, (tt, (tt, (tt, (tt, (tt, (tt, tt))))))))), λ q. q),
 )
 
 pub runs : Runs

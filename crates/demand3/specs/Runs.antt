@@ -10,10 +10,10 @@ use Rattle.laws.specs.Text.{codes}
 use Rattle.laws.specs.Truth.{All}
 use Rattle.characters.specs.Marks.{lf, cr, longest}
 use Rattle.records.specs.declared.records.Record.{Record}
-use Rattle.records.specs.declared.records.Record.the-variants.{Idling, Position, RadioData, Train, TrainData}
+use Rattle.records.specs.declared.records.Record.the-variants.{Idling, Position, RadioData, Stop, Train, TrainData}
 use Rattle.protocol.specs.History.{Tel, Hist, sent, again, noted, handled, over, answered, gaveUp}
 use Rattle.protocol.specs.Ends.{Sys, Ev, run, start, ran, happened, mdo, ddo, sys, offer, mtick, dtick, act, lost, whole, spoilt, empty}
-use Rattle.demand3.specs.Ours.{ours, queues, sets}
+use Rattle.demand3.specs.Ours.{ours, queues, sets, turns}
 use Rattle.demand3.specs.Allowed.{allowed}
 
 -- 66 bytes of room
@@ -93,11 +93,44 @@ polled = record {
   line = 3;
   from = 0;
   events =
-      act (queues (radio 1234)) ∷ mtick 20000 room ∷ whole 20010 room ∷ lost ∷ act (queues (radio 4321)) ∷ mtick 22000 room ∷ whole 22010 room ∷
-      whole 22020 room ∷ mtick 42000 room ∷ whole 42010 room ∷ whole 42020 room ∷ [];
+      act (queues (radio 1234)) ∷ mtick 10000 room ∷ whole 10010 room ∷ lost ∷ act (queues (radio 4321)) ∷ mtick 12000 room ∷ whole 12010 room ∷
+      whole 12020 room ∷ mtick 22000 room ∷ whole 22010 room ∷ whole 22020 room ∷ [];
   history =
       answered nextPoll nextRadioData 1 ∷ over nextPoll ∷ handled nextPoll nextRadioData ∷ sent nextPoll ∷
       answered poll radioData 2 ∷ over poll ∷ again poll ∷ over poll ∷ handled poll radioData ∷ sent poll ∷ [];
+}
+
+-- The key in position Operation on line 3: T0 is 10,000 until A answers t with X, and 20,000 from then on.
+abbrev pub inOperation : Run
+inOperation = record {
+  line = 3;
+  from = 0;
+  events =
+      act (turns (code "X")) ∷ mtick 9999 room ∷ mtick 10000 room ∷ whole 10010 room ∷ whole 10020 room ∷ mtick 29999 room ∷ mtick 30000 room ∷
+      whole 30010 room ∷ whole 30020 room ∷ [];
+  history =
+      answered nextPoll (telegram "08A1AX8D") 1 ∷ over nextPoll ∷ handled nextPoll (telegram "08A1AX8D") ∷ sent nextPoll ∷
+      answered poll (telegram "08A0AX8E") 1 ∷ over poll ∷ handled poll (telegram "08A0AX8E") ∷ sent poll ∷ [];
+}
+
+-- The poll of line 2, r for 5 every 5,000: the answer to the first is lost, and the second sending gets the stored one.
+abbrev pub stopRequest : Tel (List ℕ)
+stopRequest = (0, telegram "08r0B57F")
+
+abbrev pub nextStopRequest : Tel (List ℕ)
+nextStopRequest = (1, telegram "08r1B57E")
+
+abbrev pub stopAsked : Run
+stopAsked = record {
+  line = 2;
+  from = 0;
+  events =
+      act (sets (Stop (code "-"))) ∷ mtick 4999 room ∷ mtick 5000 room ∷ whole 5010 room ∷ lost ∷ mtick 7000 room ∷ whole 7010 room ∷ whole 7020 room ∷
+      mtick 11999 room ∷ mtick 12000 room ∷ whole 12010 room ∷ whole 12020 room ∷ [];
+  history =
+      answered nextStopRequest (telegram "0851U-B0") 1 ∷ over nextStopRequest ∷ handled nextStopRequest (telegram "0851U-B0") ∷ sent nextStopRequest ∷
+      answered stopRequest (telegram "0850U-B1") 2 ∷ over stopRequest ∷ again stopRequest ∷ over stopRequest ∷
+      handled stopRequest (telegram "0850U-B1") ∷ sent stopRequest ∷ [];
 }
 
 -- Through the clock's zero on line 1: the answer to a poll is lost, and T2 and T0 run out behind zero, at 2,000 and 20,000 and not before.
@@ -218,7 +251,7 @@ lateAnswerHistory =
 
 -- runs in which the supposition and the promise hold, and runs in which they fail
 abbrev pub keptRuns : List Run
-keptRuns = usual ∷ polled ∷ throughZero ∷ stale ∷ cramped ∷ withheld ∷ []
+keptRuns = usual ∷ polled ∷ inOperation ∷ stopAsked ∷ throughZero ∷ stale ∷ cramped ∷ withheld ∷ []
 
 abbrev pub brokenRuns : List Run
 brokenRuns = twice ∷ later ∷ []
@@ -229,4 +262,4 @@ Runs = All Happens keptRuns × All Happens brokenRuns × (lateSending ≡ lateSe
 
 -- Each is a run of the demand's line, but for `withheld` and the late ones.
 abbrev pub AllowedRuns : Type 0
-AllowedRuns = All Allowed (usual ∷ polled ∷ throughZero ∷ stale ∷ cramped ∷ brokenRuns) × (Allowed withheld → ⊥)
+AllowedRuns = All Allowed (usual ∷ polled ∷ inOperation ∷ stopAsked ∷ throughZero ∷ stale ∷ cramped ∷ brokenRuns) × (Allowed withheld → ⊥)

@@ -5,9 +5,10 @@ ghost use Rattle.lines.specs.Lines.{isLine, lineOf, isKey};
 // How many lines there are.
 pub const LINE_COUNT: usize = 3;
 
-// A line: the type that the master polls with, T0's limit, and whether A carries a key position when it answers t.
+// A line: the type that the master polls with, T0's limit while it is reduced, T0's limit, and whether A carries a key position when it answers t.
 pub struct Line {
     pub poll: u8,
+    pub reduced: u32,
     pub t0: u32,
     pub keyed: bool,
 }
@@ -15,19 +16,22 @@ pub struct Line {
 pub const LINES: [Line; LINE_COUNT] = [
     // 1: ATC-TC
     Line {
-        poll: b'r',
+        poll: b'r', // for B
+        reduced: 20000,
         t0: 20000,
         keyed: false,
     },
     // 2: ATC-MSR3
     Line {
-        poll: b't',
-        t0: 20000,
+        poll: b'r', // for 5
+        reduced: 5000,
+        t0: 5000,
         keyed: false,
     },
     // 3: MSR3-TC
     Line {
         poll: b't',
+        reduced: 10000,
         t0: 20000,
         keyed: true,
     },
@@ -54,6 +58,7 @@ pub fn line_of(line: u8) -> Line
     }
     Line {
         poll: 0,
+        reduced: 0,
         t0: 0,
         keyed: false,
     }

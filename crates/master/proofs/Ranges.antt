@@ -21,53 +21,72 @@ use Rattle.framing.specs.Answers.{good, fails}
 use Rattle.clock.specs.Counters.{inRange}
 use Rattle.characters.specs.Marks.{longest}
 use Rattle.masterrules.specs.Rules.{pollOf}
+use Rattle.masterrules.specs.Times.{operationFits}
 use Rattle.master.specs.declared.state.Master.{Master}
 use Rattle.master.specs.Answers.{refused, nothing}
-use Rattle.master.specs.State.{isFree, sendable, inRanges, callFault, withLine, started, unstarted, startOf}
+use Rattle.master.specs.State.{isFree, sendable, fitsFree, inRanges, callFault, withLine, started, unstarted, startOf}
 
 -- a fault is no pass
 pub no-pass : {A : Type 0} {x : No} → fails x ≡ good → A
 no-pass h = let z : _≡_ {A = ℕ} 0 1 = cc in let y : ⊥ = omega arith in absurd y
 
--- the test, in the order of its parts
+-- what a free state is by, in the order of its parts
 module _ (m : Master) where
-  pub no-line : isLine (m .line) ≡ false → false ≡ inRanges m
-  unfolding inRanges
+  pub no-line : isLine (m .line) ≡ false → false ≡ fitsFree m
+  unfolding fitsFree
   no-line h = rw h
 
   module _ (l : isLine (m .line) ≡ true) where
-    pub no-number : inRange (m .number .0) ≡ false → false ≡ inRanges m
-    unfolding inRanges
+    pub no-number : inRange (m .number .0) ≡ false → false ≡ fitsFree m
+    unfolding fitsFree
     no-number h = rw (l, h)
 
-    module _ (n : inRange (m .number .0) ≡ true) where
-      pub while-free : m .count ≡ 0 → true ≡ inRanges m
-      unfolding inRanges
-      while-free h = rw (l, n, eq-eqb (m .count) 0 h)
+    pub by-flag : inRange (m .number .0) ≡ true → operationFits (m .line) (m .operation) ≡ fitsFree m
+    unfolding fitsFree
+    by-flag h = rw (l, h)
 
-      pub too-many : ¬ (m .count ≡ 0) → 3 < m .count → false ≡ inRanges m
-      unfolding inRanges
-      too-many h k = let b : 4 ≤ m .count = omega arith in rw (l, n, ne-eqb (m .count) 0 h, le-ltb (m .count) 4 b)
+-- the whole test likewise
+module _ (m : Master) where
+  pub unfit : fitsFree m ≡ false → false ≡ inRanges m
+  unfolding inRanges
+  unfit h = rw h
 
-      pub while-busy : ¬ (m .count ≡ 0) → m .count ≤ 3 → sendable (m .line) (m .rec) ≡ inRanges m
-      unfolding inRanges
-      while-busy h k = let b : m .count < 4 = omega arith in rw (l, n, ne-eqb (m .count) 0 h, lt-ltb (m .count) 4 b)
+  module _ (l : fitsFree m ≡ true) where
+    pub while-free : m .count ≡ 0 → true ≡ inRanges m
+    unfolding inRanges
+    while-free h = rw (l, eq-eqb (m .count) 0 h)
+
+    pub too-many : ¬ (m .count ≡ 0) → 3 < m .count → false ≡ inRanges m
+    unfolding inRanges
+    too-many h k = let b : 4 ≤ m .count = omega arith in rw (l, ne-eqb (m .count) 0 h, le-ltb (m .count) 4 b)
+
+    pub while-busy : ¬ (m .count ≡ 0) → m .count ≤ 3 → sendable (m .line) (m .rec) ≡ inRanges m
+    unfolding inRanges
+    while-busy h k = let b : m .count < 4 = omega arith in rw (l, ne-eqb (m .count) 0 h, lt-ltb (m .count) 4 b)
 
 -- what a state in its ranges has
 module _ (m : Master) (h : inRanges m ≡ true) where
-  pub lined : isLine (m .line) ≡ true
+  pub fits-free : fitsFree m ≡ true
   unfolding inRanges
-  lined = both-left _ _ h
+  fits-free = both-left _ _ h
 
-  rest : both (inRange (m .number .0)) (either (isFree m) (both (ltb (m .count) 4) (sendable (m .line) (m .rec)))) ≡ true
-  unfolding inRanges
-  rest = both-right (isLine (m .line)) _ h
+  pub lined : isLine (m .line) ≡ true
+  unfolding fitsFree
+  lined = both-left _ _ fits-free
+
+  rest : both (inRange (m .number .0)) (operationFits (m .line) (m .operation)) ≡ true
+  unfolding fitsFree
+  rest = both-right (isLine (m .line)) _ fits-free
 
   pub numbered : m .number .0 < 2
   numbered = ltb-true (m .number .0) 2 (both-left _ _ rest)
 
+  pub flagged : operationFits (m .line) (m .operation) ≡ true
+  flagged = both-right (inRange (m .number .0)) _ rest
+
   busy : isFree m ≡ false → both (ltb (m .count) 4) (sendable (m .line) (m .rec)) ≡ true
-  busy b = rw b at (both-right (inRange (m .number .0)) _ rest)
+  unfolding inRanges
+  busy b = rw b at (both-right (fitsFree m) _ h)
 
   pub counted : isFree m ≡ false → m .count < 4
   counted b = ltb-true (m .count) 4 (both-left _ _ (busy b))
@@ -104,7 +123,7 @@ poll-sendable line h =
 
 -- noting the line changes no range
 pub line-noted : (m n : Master) (g : Bool) → n ≡ withLine m g → inRanges m ≡ true → inRanges n ≡ true
-unfolding inRanges
+unfolding fitsFree inRanges
 line-noted m n g e h = rw e h
 
 pub line-noted-busy : (m n : Master) (g : Bool) → n ≡ withLine m g → isFree m ≡ false → isFree n ≡ false

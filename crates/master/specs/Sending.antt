@@ -4,7 +4,6 @@ use mathlib.Core.Bool.{Bool, false, cond}
 use mathlib.Core.List.{List}
 use lib.Dec.{eqb}
 use lib.ListN.{length}
-use Rattle.lines.specs.Lines.{lineOf}
 use Rattle.forms.specs.Forms.{byMaster}
 use Rattle.records.specs.Refusals.{no}
 use Rattle.records.specs.Records.{typeOf}
@@ -14,6 +13,7 @@ use Rattle.framing.specs.Answers.{Fault, good, fails}
 use Rattle.writing.specs.Writing.{telegramOf, sentOf}
 use Rattle.clock.specs.Clock.{runOut}
 use Rattle.masterrules.specs.Rules.{pollOf}
+use Rattle.masterrules.specs.Times.{t0Of}
 use Rattle.master.specs.declared.state.Master.{Master}
 use Rattle.master.specs.Answers.{Which, offered, again, poll, Ground, silence, Told, refused, nothing, sent, givenUp}
 use Rattle.master.specs.State.{isFree, callFault, afterSending, withLine, givenUpState}
@@ -27,9 +27,9 @@ abbrev pub unlessRefused : Fault → Master → List ℕ → Behind → Behind
 unlessRefused good m out behind = behind
 unlessRefused (fails x) m out behind = (m, (refused x, out))
 
--- T0 is that of the line: 20,000
-unfoldable pub t0Limit : Master → ℕ
-t0Limit m = lineOf (m .line) .t0
+-- T0: 20,000 on line 1 (001 section 6.9), 5,000 on line 2 (section 7.3); on line 3 10,000, and 20,000 from an A to t with X to one with another value (section 8.6)
+abbrev pub t0Limit : Master → ℕ
+t0Limit m = t0Of (m .line) (m .operation)
 
 -- T2 is 2,000
 abbrev pub t2Limit : ℕ

@@ -8,7 +8,7 @@ ghost use Rattle.framing.specs.Answers.{faultOf};
 ghost use Rattle.characters.specs.Marks.{longest};
 ghost use Rattle.master.specs.Answers.{whichOf, groundOf, toldOf};
 ghost use Rattle.master.specs.State.{isFree, inRanges, withLine, givenUpState};
-ghost use Rattle.master.specs.Sending.{t0Limit, sendingOf, failedOf, failOf, offerFault, offerOf, pollingOf, waitingOf, tickOf};
+ghost use Rattle.master.specs.Sending.{sendingOf, failedOf, failOf, offerFault, offerOf, pollingOf, waitingOf, tickOf};
 use crate::answers::Answer;
 use crate::answers::Cause;
 use crate::answers::Sending;
@@ -18,8 +18,8 @@ use clock::clock::run_out;
 use clock::counters::ToSend;
 use forms::table::by_master;
 use framing::answers::Check;
-use lines::lines::line_of;
 use masterrules::rules::poll_of;
+use masterrules::times::t0_of;
 use records::records::Record;
 use records::records::type_of;
 use records::refusals::Refusal;
@@ -30,14 +30,6 @@ use writing::sending::send;
 pub const T2: u32 = 2_000;
 
 impl Master {
-    // T0's limit, that of the line.
-    fn t0_limit(self) -> u32
-        ensures { λ r. ⌜ r ≡ t0Limit self ⌝ }
-    {
-        let row = line_of(self.line);
-        row.t0
-    }
-
     // Sends a record's telegram with the number to send; every sending restarts T0 and T2.
     fn send(self, sending: Sending, rec: Record, count: u8, at: u32, out: &mut [u8]) -> Step
         requires { ⌜ (permitsRecord (self .line) rec ≡ true) × ((self .number .0 < 2) × (longest ≤ length (now out))) ⌝ }
@@ -129,7 +121,7 @@ impl Master {
         requires { ⌜ (inRanges self ≡ true) × (longest ≤ length (now out)) ⌝ }
         ensures { λ r. ⌜ (r .master, (toldOf (r .answer), now (out .exit))) ≡ pollingOf self at (now (out .entry)) ⌝ }
     {
-        if !run_out(at, self.t0, self.t0_limit()) {
+        if !run_out(at, self.t0, t0_of(self.line, self.operation)) {
             return self.nothing();
         }
         self.send(Sending::Poll, poll_of(self.line), 1, at, out)

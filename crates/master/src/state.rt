@@ -3,19 +3,22 @@ ghost use mathlib.Core.Path.{_≡_};
 ghost use Rattle.framing.specs.Answers.{faultOf};
 ghost use Rattle.master.specs.Answers.{toldOf};
 ghost use Rattle.master.specs.declared.answers.Answer.the-variants;
-ghost use Rattle.master.specs.State.{sendable, inRanges, callFault, afterSending, withLine, freed, answeredState, startOf};
+ghost use Rattle.master.specs.State.{sendable, fitsFree, inRanges, callFault, afterSending, withLine, freed, answeredState, answeredWith, startOf};
 use crate::answers::Answer;
 use characters::marks::LONGEST;
 use clock::counters::ToSend;
 use forms::table::by_master;
 use framing::answers::Check;
 use lines::lines::is_line;
+use masterrules::times::operation_after;
+use masterrules::times::operation_fits;
 use records::records::Record;
 use records::records::type_of;
 use records::refusals::Refusal;
 use values::values::permits_record;
 
 // A count of 0 is free; 1 to 3 are the sendings made of rec's telegram. While free, rec and T2's start are not looked at and stay as they were.
+// operation: the last A that answered t said that the key is in position Operation.
 pub struct Master {
     pub line: u8,
     pub good: bool,
@@ -24,6 +27,7 @@ pub struct Master {
     pub rec: Record,
     pub t0: u32,
     pub t2: u32,
+    pub operation: bool,
 }
 
 // The state behind a call, and its answer.
@@ -58,6 +62,7 @@ impl Master {
                     rec: Record::Idling(b't' as u32),
                     t0: 0,
                     t2: 0,
+                    operation: false,
                 },
                 answer: Answer::Refused(Refusal::State),
             };
@@ -71,20 +76,31 @@ impl Master {
                 rec: Record::Idling(b't' as u32),
                 t0: at,
                 t2: at,
+                operation: false,
             },
             answer: Answer::Nothing,
         }
     }
 
-    // Whether the state is in its ranges.
-    fn in_ranges(self) -> bool
-        ensures { λ r. ⌜ r ≡ inRanges self ⌝ }
+    // Whether what a free state is by is in its ranges: the line, the number and the flag.
+    fn fits_free(self) -> bool
+        ensures { λ r. ⌜ r ≡ fitsFree self ⌝ }
     {
         let number = self.number;
         if !is_line(self.line) {
             return false;
         }
         if !number.in_range() {
+            return false;
+        }
+        operation_fits(self.line, self.operation)
+    }
+
+    // Whether the state is in its ranges.
+    fn in_ranges(self) -> bool
+        ensures { λ r. ⌜ r ≡ inRanges self ⌝ }
+    {
+        if !self.fits_free() {
             return false;
         }
         if self.count == 0 {
@@ -123,6 +139,7 @@ impl Master {
             rec,
             t0: at,
             t2: at,
+            operation: self.operation,
         }
     }
 
@@ -152,6 +169,16 @@ impl Master {
         let number = self.number;
         let next = number.changed();
         self.freed(next)
+    }
+
+    // Answered by a permitted record: an A that answers t also tells the key position, by which T0 is; T0's start stays.
+    pub fn answered_with(self, rec: Record) -> Master
+        ensures { λ r. ⌜ r ≡ answeredWith self rec ⌝ }
+    {
+        let sent = self.rec;
+        let mut m = self.answered();
+        m.operation = operation_after(self.line, type_of(sent), rec, self.operation);
+        m
     }
 
     // A call that does nothing gives the same state.

@@ -21,7 +21,7 @@ use Rattle.master.specs.declared.state.Master.{Master}
 use Rattle.master.specs.declared.state.Step.{Step}
 use Rattle.master.specs.declared.answers.Reason.{Reason}
 use Rattle.master.specs.Answers.{rejected, Told, toldOf}
-use Rattle.master.specs.State.{isFree, inRanges, callFault, withLine, answeredState}
+use Rattle.master.specs.State.{isFree, inRanges, callFault, withLine, answeredWith}
 use Rattle.master.specs.Sending.{t2Limit, failOf}
 use Rattle.masterhearing.specs.Hearing.{endedOf, settledOf, judged, hearOf}
 use Rattle.master.proofs.Sends.{stepped, refusing, fail-passed}
@@ -48,7 +48,7 @@ module _ (m : Master) (at : ℕ) (out : List ℕ) (v : Verdict) where
     pub settle-failed : v ≡ j.Failed → inRanges n ≡ true → isFree n ≡ false → longest ≤ length out → failOf rejected true n at out ≡ settledOf m at (judgedOf v) out
     settle-failed h r b room = fail-passed rejected true n at out r b room ∙ rw (h, e)
 
-    pub settle-answered : (rec : Record) → v ≡ j.Answered rec → (s : Step) → s ≡ permitting (answeredState n) rec (n .count) → stepped s out ≡ settledOf m at (judgedOf v) out
+    pub settle-answered : (rec : Record) → v ≡ j.Answered rec → (s : Step) → s ≡ permitting (answeredWith n rec) rec (n .count) → stepped s out ≡ settledOf m at (judgedOf v) out
     settle-answered rec h s q = rw (h, q, e)
 
     pub settle-ended : (reading : Reading) → v ≡ j.OtherKind reading → (s : Step) → (s .master, toldOf (s .answer)) ≡ endedOf n (answerOf reading) → stepped s out ≡ settledOf m at (judgedOf v) out

@@ -1,4 +1,4 @@
--- What the master does with a frame that it hears (rules M8 to M14). Assumes nothing.
+-- What the master does with a frame that it hears (rules M8 to M14, M18). Assumes nothing.
 use Prim.Native.Nat.{ℕ}
 use mathlib.Core.Bool.{true, cond}
 use mathlib.Core.List.{List}
@@ -9,7 +9,7 @@ use Rattle.clock.specs.Clock.{runOut}
 use Rattle.judging.specs.Judging.{Judged, judgeOf}
 use Rattle.judging.specs.Judging as j
 use Rattle.master.specs.declared.state.Master.{Master}
-use Rattle.master.specs.State.{isFree, callFault, withLine, answeredState}
+use Rattle.master.specs.State.{isFree, callFault, withLine, answeredState, answeredWith}
 use Rattle.master.specs.Sending.{Behind, t2Limit, unlessRefused, failedOf}
 use Rattle.master.specs.Answers as t
 
@@ -28,8 +28,8 @@ settledOf m at (j.refused x) out = ignoring (t.Why.refused x) m out
 settledOf m at j.otherNumber out = ignoring t.otherNumber m out
 -- else the line is good: N with 1 or 2 is a failed sending, and the line stays good
 settledOf m at j.failed out = failedOf t.rejected true (withLine m true) at out
--- all else ends the telegram as answered, permitted or of another kind
-settledOf m at (j.answered rec) out = (answeredState (withLine m true), (t.answered rec (m .count), out))
+-- all else ends the telegram as answered, permitted or of another kind; a permitted A to t tells the key position too
+settledOf m at (j.answered rec) out = (answeredWith (withLine m true) rec, (t.answered rec (m .count), out))
 settledOf m at (j.otherKind answer) out = (endedOf (withLine m true) answer .0, (endedOf (withLine m true) answer .1, out))
 
 -- what a frame is to the telegram that the master waits on

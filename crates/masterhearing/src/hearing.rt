@@ -1,4 +1,4 @@
-// What the master hears: answers, failed sendings, and what it ignores (rules M8 to M14).
+// What the master hears: answers, failed sendings, and what it ignores (rules M8 to M14, M18).
 ghost use mathlib.Core.Path.{_≡_};
 ghost use mathlib.Core.Bool.{true, false};
 ghost use Prim.Native.Nat.{_≤_};
@@ -7,7 +7,7 @@ ghost use Rattle.reading.specs.Answers.{answerOf};
 ghost use Rattle.characters.specs.Marks.{longest};
 ghost use Rattle.judging.specs.Judging.{judgedOf};
 ghost use Rattle.master.specs.Answers.{toldOf};
-ghost use Rattle.master.specs.State.{isFree, inRanges, answeredState};
+ghost use Rattle.master.specs.State.{isFree, inRanges, answeredWith};
 ghost use Rattle.master.specs.declared.answers.Answer.the-variants;
 ghost use Rattle.masterhearing.specs.Hearing.{endedOf, settledOf, judged, hearOf};
 use clock::clock::run_out;
@@ -34,12 +34,12 @@ fn ignored(master: Master, why: Reason) -> Step
     }
 }
 
-// A permitted answer ends the telegram as answered.
+// A permitted answer ends the telegram as answered, and may tell the key position.
 fn permitted(master: Master, rec: Record) -> Step
-    ensures { λ r. ⌜ r ≡ record { master = answeredState master; answer = the-variants.Answered rec (master .count) } ⌝ }
+    ensures { λ r. ⌜ r ≡ record { master = answeredWith master rec; answer = the-variants.Answered rec (master .count) } ⌝ }
 {
     let count = master.count;
-    let freed = master.answered();
+    let freed = master.answered_with(rec);
     Step {
         master: freed,
         answer: Answer::Answered { rec, count },

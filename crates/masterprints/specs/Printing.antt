@@ -24,9 +24,13 @@ didText row told sent good number count = beganText row ++ (toldText told ++ (ou
 unfoldable pub alteredText : List ℕ → Bool → ℕ → ℕ → List ℕ
 alteredText row good number count = beganText row ++ (codes "altered" ++ numbersText good number count)
 
--- the line, and T0's start
-unfoldable pub startsText : ℕ → ℕ → List ℕ
-startsText line t0 = numberText (codes "line ") line ++ numberText (codes ", T0 ") t0
+-- whether the key is known to be in position Operation
+unfoldable pub operationText : Bool → List ℕ
+operationText operation = cond operation (codes ", operation") []
+
+-- the line, T0's start, and the key position by which T0 is
+unfoldable pub startsText : ℕ → ℕ → Bool → List ℕ
+startsText line t0 operation = numberText (codes "line ") line ++ (numberText (codes ", T0 ") t0 ++ operationText operation)
 
 -- while it is not free, T2's start and what is sent
 unfoldable pub busyText : ℕ → ℕ → Record → List ℕ
@@ -36,6 +40,6 @@ busyText count t2 rec = cond (eqb count 0) [] (numberText (codes ", T2 ") t2 ++ 
 unfoldable pub wholeText : List ℕ → Master → List ℕ
 wholeText row m =
     beganText row
-    ++ (startsText (m .line) (m .t0)
+    ++ (startsText (m .line) (m .t0) (m .operation)
     ++ (busyText (m .count) (m .t2) (m .rec)
     ++ numbersText (m .good) (m .number .0) (m .count)))

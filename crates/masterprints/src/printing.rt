@@ -2,7 +2,7 @@
 ghost use mathlib.Core.Path.{_≡_};
 ghost use Rattle.text.specs.Putting.{puts};
 ghost use Rattle.master.specs.Answers.{toldOf};
-ghost use Rattle.masterprints.specs.Printing.{numbersText, didText, alteredText, startsText, busyText, wholeText};
+ghost use Rattle.masterprints.specs.Printing.{numbersText, didText, alteredText, operationText, startsText, busyText, wholeText};
 use items::items::put_record;
 use master::answers::Answer;
 use master::state::Master;
@@ -52,12 +52,23 @@ pub fn put_altered(out: &mut [u8], row: &[u8], good: bool, to_send: u8, count: u
     put_numbers(out, b, good, to_send, count)
 }
 
-// The line, and T0's start.
-fn put_starts(out: &mut [u8], at: usize, of: u8, t0: u32) -> usize
-    ensures { λ r. ⌜ (r, now (out .exit)) ≡ puts (startsText of t0) at (now (out .entry)) ⌝ }
+// Whether the key is known to be in position Operation.
+fn put_operation(out: &mut [u8], at: usize, operation: bool) -> usize
+    ensures { λ r. ⌜ (r, now (out .exit)) ≡ puts (operationText operation) at (now (out .entry)) ⌝ }
+{
+    if operation {
+        return put_text(out, at, b", operation");
+    }
+    at
+}
+
+// The line, T0's start, and the key position by which T0 is.
+fn put_starts(out: &mut [u8], at: usize, of: u8, t0: u32, operation: bool) -> usize
+    ensures { λ r. ⌜ (r, now (out .exit)) ≡ puts (startsText of t0 operation) at (now (out .entry)) ⌝ }
 {
     let a = number(out, at, b"line ", of as u64);
-    number(out, a, b", T0 ", t0 as u64)
+    let b = number(out, a, b", T0 ", t0 as u64);
+    put_operation(out, b, operation)
 }
 
 // While it is not free, T2's start and what is sent.
@@ -79,7 +90,7 @@ pub fn put_whole(out: &mut [u8], row: &[u8], m: Master) -> usize
     let rec = m.rec;
     let to_send = m.number;
     let a = begin(out, row);
-    let b = put_starts(out, a, m.line, m.t0);
+    let b = put_starts(out, a, m.line, m.t0, m.operation);
     let c = put_busy(out, b, m.count, m.t2, rec);
     put_numbers(out, c, m.good, to_send.0, m.count)
 }

@@ -16,7 +16,8 @@ alterNumbered n =
     cond (eqb n 0) (c.the-variants.Alter f.the-variants.Line)
     (cond (eqb n 1) (c.the-variants.Alter f.the-variants.Number)
     (cond (eqb n 2) (c.the-variants.Alter f.the-variants.Count)
-    c.the-variants.Unknown))
+    (cond (eqb n 3) (c.the-variants.Alter f.the-variants.Operation)
+    c.the-variants.Unknown)))
 
 -- by the numbers of a call's word and of a field's word
 unfoldable pub callNumbered : ℕ → ℕ → Call
@@ -33,4 +34,4 @@ unfoldable pub callOf : List ℕ → Call
 callOf row =
     callNumbered
     (wordPlace (codes "start tick offer hear alter show") 6 (wordOf 1 row))
-    (wordPlace (codes "line number count") 3 (wordOf 2 row))
+    (wordPlace (codes "line number count operation") 4 (wordOf 2 row))

@@ -16,6 +16,7 @@ pub fn altered(m: Master, field: Field, value: u8) -> Master
             e.number = number;
         }
         Field::Count => e.count = value,
+        Field::Operation => e.operation = value != 0,
     }
     e
 }

@@ -16,6 +16,7 @@ pub enum Field {
     Line,
     Number,
     Count,
+    Operation,
 }
 
 pub enum Call {
@@ -34,6 +35,7 @@ fn alter_numbered(n: usize) -> Call
         0 => Call::Alter(Field::Line),
         1 => Call::Alter(Field::Number),
         2 => Call::Alter(Field::Count),
+        3 => Call::Alter(Field::Operation),
         _ => Call::Unknown,
     }
 }
@@ -57,6 +59,6 @@ pub fn call_of(row: &[u8]) -> Call
     ensures { λ r. ⌜ r ≡ callOf (now (row .entry)) ⌝ }
 {
     let n = word_place(b"start tick offer hear alter show", 6, word(row, 1));
-    let field = word_place(b"line number count", 3, word(row, 2));
+    let field = word_place(b"line number count operation", 4, word(row, 2));
     call_numbered(n, field)
 }

@@ -1,19 +1,20 @@
 -- A master's block: its length, and what is loaded of it. Assumes nothing.
 use mathlib.Core.Path.{_≡_, refl}
-use mathlib.Core.List.{List}
+use mathlib.Core.List.{List, [], _∷_}
 use Prim.Native.Nat.{ℕ}
 use native.Mathlib.Omega.{arith}
 use lib.ListN.{length, length-append}
 use lib.Seq.{take-all}
 use Rattle.laws.specs.Numerals.{numeralOn}
-use Rattle.master.specs.State.{unstarted, inRanges}
+use Rattle.master.specs.State.{unstarted, fitsFree, inRanges}
 use Rattle.master.specs.declared.state.Master.{Master}
 use Rattle.text.specs.Putting.{puts}
+use Rattle.text.proofs.Puts.{then}
 use Rattle.blocks.specs.Numbers.{fourBytes}
 use Rattle.blocks.specs.Record.{recordLength, recordBytes}
 use Rattle.blocks.proofs.Fours.{four-length, four-back}
 use Rattle.blocks.proofs.Found.{record-length, made-again}
-use Rattle.states.specs.Layout.{headBytes}
+use Rattle.states.specs.Layout.{flagByte, headBytes}
 use Rattle.masterstates.specs.Masters.{masterBytes, masterLength, masterAt, Typed, MasterBack, OtherMasters, OneMaster}
 use Rattle.states.proofs.Parts.{flag-back}
 use Rattle.states.proofs.Puts.{four}
@@ -27,12 +28,13 @@ master-length m =
     let c = record-length (m .rec) in
     simp length-append (omega arith)
 
-pub master-put : (m : Master) (at : ℕ) (out : List ℕ) (a : ℕ) (o : List ℕ) (b : ℕ) (p : List ℕ) (c : ℕ) (q : List ℕ) (r : ℕ) (x : List ℕ)
+pub master-put : (m : Master) (at : ℕ) (out : List ℕ) (a : ℕ) (o : List ℕ) (b : ℕ) (p : List ℕ) (c : ℕ) (q : List ℕ) (flag d : ℕ) (w : List ℕ) (r : ℕ) (x : List ℕ)
     → (a, o) ≡ puts (headBytes (m .line) (m .good) (m .number .0) (m .count)) at out → (b, p) ≡ puts (fourBytes (m .t0)) a o → (c, q) ≡ puts (fourBytes (m .t2)) b p
-    → (r, x) ≡ puts (recordBytes (m .rec)) c q → (r, x) ≡ puts (masterBytes m) at out
+    → flag ≡ flagByte (m .operation) → (d, w) ≡ puts (flag ∷ []) c q → (r, x) ≡ puts (recordBytes (m .rec)) d w → (r, x) ≡ puts (masterBytes m) at out
 unfolding masterBytes
-master-put m at out a o b p c q r x h g f e =
-    four (headBytes (m .line) (m .good) (m .number .0) (m .count)) (fourBytes (m .t0)) (fourBytes (m .t2)) (recordBytes (m .rec)) at out a o b p c q r x h g f e
+master-put m at out a o b p c q flag d w r x h g f i j e =
+    four (headBytes (m .line) (m .good) (m .number .0) (m .count)) (fourBytes (m .t0)) (fourBytes (m .t2)) (flagByte (m .operation) ∷ recordBytes (m .rec)) at out a o b p c q r x h g f
+    (rw i at (then (flag ∷ []) (recordBytes (m .rec)) c q d r w x j e))
 
 -- the four bytes of a start are there one by one
 master-again : (m : Master) → Typed m → masterAt (masterBytes m) ≡ m
@@ -42,6 +44,7 @@ master-again m t =
       flag-back (m .good),
       four-back (m .t0) (t .t0),
       four-back (m .t2) (t .t2),
+      flag-back (m .operation),
       take-all recordLength (recordBytes (m .rec)) (omega (arith, record-length (m .rec))),
       made-again (m .rec) (t .rec),
     )
@@ -50,7 +53,7 @@ pub master-back : MasterBack
 master-back m b t h l = loads-saved masterBytes masterAt unstarted masterLength m b (master-again m t) l
 
 pub other-masters : OtherMasters
-other-masters b h = other masterBytes masterAt unstarted inRanges (unfold inRanges in refl) b h
+other-masters b h = other masterBytes masterAt unstarted inRanges (unfold fitsFree inRanges in refl) b h
 
 pub one-master : OneMaster
-one-master a b h e = one masterBytes masterAt unstarted inRanges (unfold inRanges in refl) a b h e
+one-master a b h e = one masterBytes masterAt unstarted inRanges (unfold fitsFree inRanges in refl) a b h e

@@ -1,22 +1,24 @@
 -- A master as a block (rules F7, F8). Assumes nothing.
-use mathlib.Core.List.{List, _++_}
+use mathlib.Core.List.{List, _∷_, _++_}
 use Prim.Native.Nat.{ℕ, _+_, _<_, _^_}
 use lib.Dec.{eqb}
 use lib.ListN.{getD}
 use Rattle.master.specs.State.{toSend, unstarted, inRanges}
 use Rattle.master.specs.declared.state.Master.{Master}
 use Rattle.blocks.specs.Layout.{stretch, filled}
-use Rattle.states.specs.Layout.{headBytes}
+use Rattle.states.specs.Layout.{flagByte, headBytes}
 use Rattle.blocks.specs.Numbers.{fourBytes, fourSaid}
 use Rattle.blocks.specs.Record.{recordLength, recordBytes, recordAt, Narrow}
 use Rattle.states.specs.States.{loaded, Back, OtherBlocks, OneBlock}
 
--- line, good, number, count, T0's and T2's start, and the record
+-- line, good, number, count, T0's and T2's start, operation, and the record
 unfoldable pub masterBytes : Master → List ℕ
-masterBytes m = headBytes (m .line) (m .good) (m .number .0) (m .count) ++ (fourBytes (m .t0) ++ (fourBytes (m .t2) ++ recordBytes (m .rec)))
+masterBytes m =
+    headBytes (m .line) (m .good) (m .number .0) (m .count)
+    ++ (fourBytes (m .t0) ++ (fourBytes (m .t2) ++ (flagByte (m .operation) ∷ recordBytes (m .rec))))
 
 abbrev pub masterLength : ℕ
-masterLength = 12 + recordLength
+masterLength = 13 + recordLength
 
 -- the master that a block's bytes make
 unfoldable pub masterAt : List ℕ → Master
@@ -26,9 +28,10 @@ masterAt b =
       good = eqb (getD b 1 0) 1;
       number = toSend (getD b 2 0);
       count = getD b 3 0;
-      rec = recordAt (stretch 12 recordLength b);
+      rec = recordAt (stretch 13 recordLength b);
       t0 = fourSaid (stretch 4 4 b);
       t2 = fourSaid (stretch 8 4 b);
+      operation = eqb (getD b 12 0) 1;
     }
 
 abbrev pub loadOf : List ℕ → Master

@@ -1,4 +1,4 @@
-// A master as a block: line, good, number, count, T0's and T2's start, and its record (rules F7, F8).
+// A master as a block: line, good, number, count, T0's and T2's start, operation, and its record (rules F7, F8).
 ghost use mathlib.Core.Path.{_≡_};
 ghost use Rattle.master.specs.State.{unstarted};
 ghost use Rattle.words.specs.Fields.{sameText};
@@ -13,11 +13,13 @@ use characters::slices::byte_at;
 use characters::slices::part;
 use clock::counters::ToSend;
 use master::state::Master;
+use states::layout::flag_byte;
 use states::layout::put_head;
+use text::putting::put_byte;
 use words::fields::same;
 
 // All bytes of a master's block.
-pub const MASTER_LENGTH: usize = 12 + RECORD_LENGTH;
+pub const MASTER_LENGTH: usize = 13 + RECORD_LENGTH;
 
 // Puts a master's block at a place, and answers the place behind it.
 fn put_master(out: &mut [u8], at: usize, m: Master) -> usize
@@ -28,7 +30,8 @@ fn put_master(out: &mut [u8], at: usize, m: Master) -> usize
     let a = put_head(out, at, m.line, m.good, number.0, m.count);
     let b = put_four(out, a, m.t0);
     let c = put_four(out, b, m.t2);
-    put_block(out, c, rec)
+    let d = put_byte(out, c, flag_byte(m.operation));
+    put_block(out, d, rec)
 }
 
 // The master that a block's bytes make.
@@ -40,9 +43,10 @@ fn master_at(block: &[u8]) -> Master
         good: byte_at(block, 1) == 1,
         number: ToSend(byte_at(block, 2)),
         count: byte_at(block, 3),
-        rec: record_at(part(block, 12, RECORD_LENGTH)),
+        rec: record_at(part(block, 13, RECORD_LENGTH)),
         t0: four_said(part(block, 4, 4)),
         t2: four_said(part(block, 8, 4)),
+        operation: byte_at(block, 12) == 1,
     }
 }
 

@@ -12,7 +12,7 @@ pub fn count_byte(n: usize) -> u8
 }
 
 // 1 or 0.
-fn flag_byte(on: bool) -> u8
+pub fn flag_byte(on: bool) -> u8
     ensures { λ r. ⌜ r ≡ flagByte on ⌝ }
 {
     if on { 1 } else { 0 }

@@ -1,14 +1,14 @@
 //! Sequences of calls of desk and master by both, mostly of exchanges that fit together, with
-//! lost and damaged frames, short rooms, damaged states and clocks that jump: rules E1 to E12, K1 to K5, M1 to M17, D1 to D16.
+//! lost and damaged frames, short rooms, damaged states and clocks that jump: rules E1 to E12, K1 to K5, M1 to M18, D1 to D16.
 
 use super::{inputs, Lent, Pair};
-use crate::blocks::{DESK, MASTER, RECORD};
+use crate::blocks::{master_in, DESK, MASTER, RECORD};
 use crate::desk::ROOM;
 use crate::face::{Answer, Call};
-use crate::making::DAMAGES;
+use crate::making::{approved, DAMAGES};
 use crate::random::Random;
 use crate::records::data_type;
-use crate::scripting::{CLOCKS, STEPS};
+use crate::scripting::{tick_time, CLOCKS, STEPS};
 
 /// The most calls of a sequence.
 const CALLS: usize = 200;
@@ -180,11 +180,16 @@ impl Sequence<'_, '_> {
         let (pair, now, line) = (&mut *self.pair, self.now, self.line);
         let answer = match self.random.below(50) {
             draw if hears || draw > 25 => {
-                let frame = heard(self.random, line, &self.from_desk);
+                let frame = if self.random.one_in(6) {
+                    approved(self.random, &self.from_master).into_boxed_slice()
+                } else {
+                    heard(self.random, line, &self.from_desk)
+                };
                 pair.call(Call::MasterHear(now, &frame), &mut self.master, out, record)
             }
             0..=15 => {
-                let block = inputs::block(self.random, line, None).into_boxed_slice();
+                let wanted = self.random.one_in(4).then_some(b't');
+                let block = inputs::block(self.random, line, wanted).into_boxed_slice();
                 pair.call(
                     Call::MasterOffer(now, &block),
                     &mut self.master,
@@ -192,7 +197,12 @@ impl Sequence<'_, '_> {
                     record,
                 )
             }
-            _ => pair.call(Call::MasterTick(now), &mut self.master, out, record),
+            _ => {
+                if let Some(master) = master_in(self.master.bytes()) {
+                    self.now = tick_time(self.random, now, &master);
+                }
+                pair.call(Call::MasterTick(self.now), &mut self.master, out, record)
+            }
         };
         if keep(&mut self.from_master, answer, out) {
             self.under_way = Some(Way::ToDesk);

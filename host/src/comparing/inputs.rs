@@ -84,13 +84,17 @@ pub fn change(random: &mut Random, bytes: &mut [u8]) {
     }
 }
 
-/// Damages a state: other bytes, often among its numbers, or another length.
+/// Damages a state: other bytes, often among its numbers, or another length, often one byte less or
+/// some more.
 pub fn damage(random: &mut Random, state: &[u8]) -> Vec<u8> {
     let mut damaged = state.to_vec();
     match random.below(8) {
         0 => damaged.truncate(random.below(state.len() + 1)),
-        1 => damaged.resize(state.len() + random.below(4), random.byte()),
-        2..=4 => change(random, damaged.get_mut(..12).unwrap_or_default()),
+        1 => damaged.resize(
+            (state.len() + random.below(5)).saturating_sub(1),
+            random.byte(),
+        ),
+        2..=4 => change(random, damaged.get_mut(..13).unwrap_or_default()),
         _ => change(random, &mut damaged),
     }
     damaged

@@ -18,16 +18,17 @@ use Rattle.clock.specs.Clock.{runOut}
 use Rattle.clock.specs.Counters.{sameNumber, numberIn}
 use Rattle.characters.specs.Marks.{longest}
 use Rattle.masterrules.specs.Rules.{pollOf, isFailure, permittedAnswer}
+use Rattle.masterrules.specs.Times.{operationAfter}
 use Rattle.judging.specs.Judging.{Judged, answeredBy, takenOf, unlessBad, judgeOf}
 use Rattle.judging.specs.Judging as j
 use Rattle.master.specs.declared.state.Master.{Master}
 use Rattle.master.specs.Answers.{Which, again, poll, Ground, silence, rejected}
-use Rattle.master.specs.State.{isFree, sendable, inRanges, callFault, withLine, answeredState, givenUpState}
+use Rattle.master.specs.State.{isFree, sendable, inRanges, callFault, withLine, answeredState, withOperation, givenUpState}
 use Rattle.master.specs.Sending.{Behind, t0Limit, t2Limit, unlessRefused, sendingOf, failedOf, offerFault, offerOf, pollingOf, waitingOf, tickOf}
 use Rattle.masterhearing.specs.Hearing.{settledOf, judged, hearOf}
 use Rattle.master.proofs.Ranges.{passed, lined, sendable-both, poll-sendable}
 use Rattle.master.proofs.Sends.{offer-passed}
-use Rattle.conduct.specs.Master.Calls.{Call, offers, ticks, hears, outputOf, after, FirstSending, offered, polled, lineAfter}
+use Rattle.conduct.specs.Master.Calls.{Call, offers, ticks, hears, callTime, outputOf, after, FirstSending, offered, polled, lineAfter}
 use Rattle.framing.specs.Answers as checked
 use Rattle.reading.specs.Answers as w
 use Rattle.master.specs.Answers as t
@@ -38,10 +39,10 @@ pub data Quiet : t.Told → Type 0 where
   idle : Quiet t.nothing
   unheard : {why : t.Why} → Quiet (t.ignored why)
 
--- the answer that ends a telegram, permitted or of another kind, reported with the sending count
-pub data Ends (count : ℕ) : t.Told → Type 0 where
-  permitted : {rec : Record} → Ends count (t.answered rec count)
-  strange : {answer : w.Answer} → Ends count (t.otherKind answer count)
+-- the answer that ends a telegram, permitted or of another kind, reported with the sending count, and the flag behind it
+pub data Ends (m : Master) : t.Told → Bool → Type 0 where
+  permitted : {rec : Record} → Ends m (t.answered rec (m .count)) (operationAfter (m .line) (typeOf (m .rec)) rec (m .operation))
+  strange : {answer : w.Answer} → Ends m (t.otherKind answer (m .count)) (m .operation)
 
 -- what a reading is to a sending: N with 1 or 2 fails it
 abbrev pub rejects : w.Answer → Bool
@@ -86,11 +87,12 @@ module _ (line number sent : ℕ) (frame : List ℕ) where
 -- what a call can do to a state in its ranges
 pub data Does (m : Master) (call : Call) : Behind → Type 0 where
   stays : (told : t.Told) → Quiet told → Does m call (m, (told, outputOf call))
-  begins : (which : Which) (rec : Record) (at : ℕ) → FirstSending m call which rec → isFree m ≡ true → sendable (m .line) rec ≡ true → longest ≤ length (outputOf call)
-      → Does m call (sendingOf which m rec 1 at (outputOf call))
-  repeats : (g : Bool) (at : ℕ) → isFree m ≡ false → ¬ (m .count ≡ 3) → longest ≤ length (outputOf call)
-      → Does m call (sendingOf again (withLine m g) (m .rec) (m .count + 1) at (outputOf call))
-  ends : (told : t.Told) → Ends (m .count) told → isFree m ≡ false → Brings m call → Does m call (answeredState (withLine m true), (told, outputOf call))
+  begins : (which : Which) (rec : Record) → FirstSending m call which rec → isFree m ≡ true → sendable (m .line) rec ≡ true → longest ≤ length (outputOf call)
+      → Does m call (sendingOf which m rec 1 (callTime call) (outputOf call))
+  repeats : (g : Bool) → isFree m ≡ false → ¬ (m .count ≡ 3) → longest ≤ length (outputOf call)
+      → Does m call (sendingOf again (withLine m g) (m .rec) (m .count + 1) (callTime call) (outputOf call))
+  ends : (told : t.Told) (operation : Bool) → Ends m told operation → isFree m ≡ false → Brings m call
+      → Does m call (withOperation (answeredState (withLine m true)) operation, (told, outputOf call))
   givesUp : (ground : Ground) → isFree m ≡ false → m .count ≡ 3
       → Does m call (givenUpState (withLine m (lineAfter ground)), (t.givenUp ground (m .count), outputOf call))
 
@@ -132,20 +134,22 @@ offer-number m rec x e = go (isFree m) (byMaster (m .line) (typeOf rec)) (permit
 
 module _ (m : Master) (h : inRanges m ≡ true) where
   -- a failed sending, for either cause
-  fails : (call : Call) (ground : Ground) (g : Bool) (at : ℕ) → isFree m ≡ false → longest ≤ length (outputOf call) → Does m call (failedOf ground (lineAfter ground) (withLine m g) at (outputOf call))
+  fails : (call : Call) (ground : Ground) (g : Bool) → isFree m ≡ false → longest ≤ length (outputOf call)
+      → Does m call (failedOf ground (lineAfter ground) (withLine m g) (callTime call) (outputOf call))
   unfolding failedOf
-  fails call ground g at f r =
+  fails call ground g f r =
       split (Does m call) (eqb (m .count) 3)
       (λ e. givesUp ground f (eqb-true (m .count) 3 e))
-      (λ e. repeats g at f (eqb-false (m .count) 3 e) r)
+      (λ e. repeats g f (eqb-false (m .count) 3 e) r)
 
   -- what a heard frame is, and what it makes of the state
-  settles : (call : Call) (at : ℕ) (judged : Judged) → (Ending judged → Brings m call) → isFree m ≡ false → longest ≤ length (outputOf call) → Does m call (settledOf m at judged (outputOf call))
-  settles call at (j.refused x) b f r = stays (t.ignored (t.Why.refused x)) unheard
-  settles call at j.otherNumber b f r = stays (t.ignored t.otherNumber) unheard
-  settles call at j.failed b f r = fails call rejected true at f r
-  settles call at (j.answered rec) b f r = ends (t.answered rec (m .count)) permitted f (b tt)
-  settles call at (j.otherKind answer) b f r = ends (t.otherKind answer (m .count)) strange f (b tt)
+  settles : (call : Call) (judged : Judged) → (Ending judged → Brings m call) → isFree m ≡ false → longest ≤ length (outputOf call)
+      → Does m call (settledOf m (callTime call) judged (outputOf call))
+  settles call (j.refused x) b f r = stays (t.ignored (t.Why.refused x)) unheard
+  settles call j.otherNumber b f r = stays (t.ignored t.otherNumber) unheard
+  settles call j.failed b f r = fails call rejected true f r
+  settles call (j.answered rec) b f r = ends (t.answered rec (m .count)) _ permitted f (b tt)
+  settles call (j.otherKind answer) b f r = ends (t.otherKind answer (m .count)) _ strange f (b tt)
 
   -- 15 and 14
   checks : (call : Call) (turn : Behind) → (longest ≤ length (outputOf call) → Does m call turn) → Does m call (unlessRefused (callFault m (length (outputOf call))) m (outputOf call) turn)
@@ -160,15 +164,15 @@ module _ (m : Master) (h : inRanges m ≡ true) where
       checks (offers at rec out) _ (λ r.
       guard (Does m (offers at rec out)) m out (sendingOf t.offered m rec 1 at out) (offerFault m rec)
       (λ x e. stays (t.Told.refused x) (barred (offer-number m rec x e)))
-      (λ e. let o = offer-passed m rec (sym e) in begins t.offered rec at offered (o .0) (sendable-both (m .line) rec (o .1 .0) (o .1 .1)) r))
+      (λ e. let o = offer-passed m rec (sym e) in begins t.offered rec offered (o .0) (sendable-both (m .line) rec (o .1 .0) (o .1 .1)) r))
   does (ticks at out) =
       checks (ticks at out) _ (λ r.
       split (Does m (ticks at out)) (isFree m)
       (λ f. split (Does m (ticks at out)) (runOut at (m .t0) (t0Limit m))
-      (λ e. begins poll (pollOf (m .line)) at polled f (poll-sendable (m .line) (lined m h)) r)
+      (λ e. begins poll (pollOf (m .line)) polled f (poll-sendable (m .line) (lined m h)) r)
       (λ e. stays t.nothing idle))
       (λ f. split (Does m (ticks at out)) (runOut at (m .t2) t2Limit)
-      (λ e. fails (ticks at out) silence (m .good) at f r)
+      (λ e. fails (ticks at out) silence (m .good) f r)
       (λ e. stays t.nothing idle)))
   does (hears at frame out) =
       checks (hears at frame out) _ (λ r.
@@ -176,4 +180,4 @@ module _ (m : Master) (h : inRanges m ≡ true) where
       (λ f. stays (t.ignored t.free) unheard)
       (λ f. split (Does m (hears at frame out)) (runOut at (m .t2) t2Limit)
       (λ e. stays (t.ignored t.runOut) unheard)
-      (λ e. settles (hears at frame out) at (judged m frame) (λ z. let b = ending (m .line) (m .number .0) (typeOf (m .rec)) frame z in brings (b .0) (b .1)) f r)))
+      (λ e. settles (hears at frame out) (judged m frame) (λ z. let b = ending (m .line) (m .number .0) (typeOf (m .rec)) frame z in brings (b .0) (b .1)) f r)))

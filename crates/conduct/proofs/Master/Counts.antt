@@ -1,6 +1,6 @@
 -- The sending count that the master reports equals the sendings made since the first of that telegram (rule M16). Assumes nothing.
 use mathlib.Core.Path.{_≡_, refl, sym}
-use mathlib.Core.Bool.{true, false}
+use mathlib.Core.Bool.{Bool, true, false}
 use mathlib.Core.List.{List, [], _∷_}
 use Prim.Native.Nat.{ℕ, _≤_}
 use native.Mathlib.Omega.{arith}
@@ -29,9 +29,9 @@ module _ (m : Master) (h : inRanges m ≡ true) (n : ℕ) (k : Holds n m) where
   quiet told idle = (tt, k)
   quiet told unheard = (tt, k)
 
-  over : (told : Told) → isFree m ≡ false → Ends (m .count) told → Reports told (tally n told)
-  over told f permitted = (k f, within f)
-  over told f strange = (k f, within f)
+  over : (told : Told) (b : Bool) → isFree m ≡ false → Ends m told b → Reports told (tally n told)
+  over told b f permitted = (k f, within f)
+  over told b f strange = (k f, within f)
 
   begun : (call : Call) (which : Which) {rec : _} → FirstSending m call which rec → oneMore n which ≡ 1
   begun call which offered = refl
@@ -40,9 +40,9 @@ module _ (m : Master) (h : inRanges m ≡ true) (n : ℕ) (k : Holds n m) where
   step : (call : Call) (turn : Behind) → Does m call turn → Reports (turn .1 .0) (tally n (turn .1 .0)) × Holds (tally n (turn .1 .0)) (turn .0)
   unfolding sendingOf
   step call turn (stays told q) = quiet told q
-  step call turn (begins which rec at f free s r) = let e = begun call which f in ((sym e, (omega arith, omega arith)), λ _. sym e)
-  step call turn (repeats g at f x r) = let w = within f in let e = k f in ((omega arith, (omega arith, omega arith)), λ _. omega arith)
-  step call turn (ends told e f b) = (over told f e, λ q. clash (sym q))
+  step call turn (begins which rec f free s r) = let e = begun call which f in ((sym e, (omega arith, omega arith)), λ _. sym e)
+  step call turn (repeats g f x r) = let w = within f in let e = k f in ((omega arith, (omega arith, omega arith)), λ _. omega arith)
+  step call turn (ends told o e f b) = (over told o f e, λ q. clash (sym q))
   step call turn (givesUp ground f c) = ((k f, within f), λ q. clash (sym q))
 
 counts : (n : ℕ) (m : Master) → inRanges m ≡ true → Holds n m → (calls : List Call) → Counted n m calls

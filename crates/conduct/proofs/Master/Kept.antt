@@ -9,31 +9,35 @@ use borrow.Author.Tests.{lt-ltb}
 use Rattle.laws.specs.Truth.{either}
 use Rattle.laws.proofs.Truths.{clash}
 use Rattle.records.specs.Refusals.{No}
+use Rattle.records.specs.Records.{typeOf}
 use Rattle.lines.specs.Lines.{isLine}
+use Rattle.masterrules.specs.Times.{operationFits}
+use Rattle.masterrules.proofs.Positions.{after-fits}
 use Rattle.clock.specs.Counters.{changedOf}
 use Rattle.master.specs.declared.state.Master.{Master}
 use Rattle.master.specs.Answers.{Told, refused}
-use Rattle.master.specs.State.{isFree, sendable, inRanges, started}
+use Rattle.master.specs.State.{isFree, sendable, fitsFree, inRanges, started}
 use Rattle.master.specs.Sending.{Behind, sendingOf}
-use Rattle.master.proofs.Ranges.{lined, numbered, counted, sends}
+use Rattle.master.proofs.Ranges.{lined, numbered, flagged, counted, sends}
 use Rattle.conduct.specs.Master.Calls.{Call, after, run}
 use Rattle.conduct.specs.Master.Kept.{Never15}
 use Rattle.conduct.proofs.Master.Calls.{Quiet, barred, idle, unheard, Ends, permitted, strange, Does, stays, begins, repeats, ends, givesUp, does}
 
 -- the start is in range
 pub start-ranged : (line at : ℕ) → isLine line ≡ true → inRanges (started line at) ≡ true
-unfolding inRanges
+unfolding operationFits fitsFree inRanges
 start-ranged line at h = rw h
 
--- free on a line with a number in range
-free-ranged : (m : Master) → isLine (m .line) ≡ true → m .number .0 < 2 → m .count ≡ 0 → inRanges m ≡ true
-unfolding inRanges
-free-ranged m l n f = rw (l, lt-ltb (m .number .0) 2 n, f)
+-- free on a line with a number and a flag in range
+free-ranged : (m : Master) → isLine (m .line) ≡ true → m .number .0 < 2 → operationFits (m .line) (m .operation) ≡ true → m .count ≡ 0 → inRanges m ≡ true
+unfolding fitsFree inRanges
+free-ranged m l n o f = rw (l, lt-ltb (m .number .0) 2 n, o, f)
 
 -- not free, with a record that the master may send
-busy-ranged : (m : Master) → isLine (m .line) ≡ true → m .number .0 < 2 → m .count < 4 → sendable (m .line) (m .rec) ≡ true → inRanges m ≡ true
-unfolding inRanges
-busy-ranged m l n c s = rw (l, lt-ltb (m .number .0) 2 n, lt-ltb (m .count) 4 c, s) (either-true (isFree m))
+busy-ranged : (m : Master) → isLine (m .line) ≡ true → m .number .0 < 2 → operationFits (m .line) (m .operation) ≡ true → m .count < 4 → sendable (m .line) (m .rec) ≡ true
+    → inRanges m ≡ true
+unfolding fitsFree inRanges
+busy-ranged m l n o c s = rw (l, lt-ltb (m .number .0) 2 n, o, lt-ltb (m .count) 4 c, s) (either-true (isFree m))
   where
     either-true : (b : Bool) → either b true ≡ true
     either-true true = refl
@@ -52,13 +56,17 @@ pub keeps : (m : Master) → inRanges m ≡ true → (call : Call) → inRanges 
 unfolding sendingOf
 keeps m h call = go (after m call) (does m h call)
   where
+    ended-flag : (told : Told) (o : Bool) → Ends m told o → operationFits (m .line) o ≡ true
+    ended-flag told o (permitted {rec = rec}) = after-fits (m .line) (typeOf (m .rec)) rec (m .operation) (flagged m h)
+    ended-flag told o strange = flagged m h
+
     go : (turn : Behind) → Does m call turn → inRanges (turn .0) ≡ true
     go turn (stays told q) = h
-    go turn (begins which rec at f free s r) = busy-ranged (turn .0) (lined m h) (numbered m h) (omega arith) s
-    go turn (repeats g at f n r) =
-        busy-ranged (turn .0) (lined m h) (numbered m h) (omega (arith, counted m h f)) (sends m h f)
-    go turn (ends told e f b) = free-ranged (turn .0) (lined m h) (changed-small (m .number .0)) refl
-    go turn (givesUp ground f c) = free-ranged (turn .0) (lined m h) (omega arith) refl
+    go turn (begins which rec f free s r) = busy-ranged (turn .0) (lined m h) (numbered m h) (flagged m h) (omega arith) s
+    go turn (repeats g f n r) =
+        busy-ranged (turn .0) (lined m h) (numbered m h) (flagged m h) (omega (arith, counted m h f)) (sends m h f)
+    go turn (ends told o e f b) = free-ranged (turn .0) (lined m h) (changed-small (m .number .0)) (ended-flag told o e) refl
+    go turn (givesUp ground f c) = free-ranged (turn .0) (lined m h) (omega arith) (flagged m h) refl
 
 -- under any calls the state is in its ranges
 pub stays-ranged : (m : Master) → inRanges m ≡ true → (calls : List Call) → inRanges (run m calls) ≡ true
@@ -75,15 +83,15 @@ not-15 m h call x e = go (after m call) (does m h call) e
     quiet told idle q k = clash (cc)
     quiet told unheard q k = clash (cc)
 
-    over : (count : ℕ) (told : Told) → Ends count told → told ≡ refused x → ¬ (x .number ≡ 15)
-    over count told permitted q = clash (cc)
-    over count told strange q = clash (cc)
+    over : (told : Told) (b : Bool) → Ends m told b → told ≡ refused x → ¬ (x .number ≡ 15)
+    over told b permitted q = clash (cc)
+    over told b strange q = clash (cc)
 
     go : (turn : Behind) → Does m call turn → turn .1 .0 ≡ refused x → ¬ (x .number ≡ 15)
     go turn (stays told n) q = quiet told n q
-    go turn (begins which rec at f free s r) q = clash (cc)
-    go turn (repeats g at f n r) q = clash (cc)
-    go turn (ends told n f b) q = over (m .count) told n q
+    go turn (begins which rec f free s r) q = clash (cc)
+    go turn (repeats g f n r) q = clash (cc)
+    go turn (ends told o n f b) q = over told o n q
     go turn (givesUp ground f c) q = clash (cc)
 
 pub never-15 : Never15

@@ -1,6 +1,6 @@
 -- A sending is the telegram of the offered record, or of the poll, with the number to send, and the same bytes each time until it ends (rules M17, E6). Assumes nothing.
 use mathlib.Core.Path.{_≡_, refl, sym, _∙_}
-use mathlib.Core.Bool.{true, false}
+use mathlib.Core.Bool.{Bool, true, false}
 use mathlib.Core.List.{List, [], _∷_}
 use Prim.Native.Nat.{ℕ, _+_}
 use lib.ListN.{length, take, drop}
@@ -12,7 +12,7 @@ use Rattle.master.specs.declared.state.Master.{Master}
 use Rattle.master.specs.Answers.{Which, again, Told}
 use Rattle.master.specs.State.{isFree, inRanges, withLine, started}
 use Rattle.master.specs.Sending.{Behind, sendingOf}
-use Rattle.conduct.specs.Master.Calls.{Call, outputOf, after}
+use Rattle.conduct.specs.Master.Calls.{Call, callTime, outputOf, after}
 use Rattle.conduct.specs.Master.Same.{first, same, Leaves, lastSent, Sent, SameBytes}
 use Rattle.conduct.proofs.Master.Calls.{Quiet, barred, idle, unheard, Ends, permitted, strange, Does, stays, begins, repeats, ends, givesUp, does}
 use Rattle.conduct.proofs.Master.Kept.{keeps, start-ranged}
@@ -44,20 +44,20 @@ module _ (m : Master) (held : List ℕ) (k : Holds held m) (call : Call) where
   quiet told idle = (refl, k)
   quiet told unheard = (refl, k)
 
-  over : (told : Told) (n : Master) → isFree n ≡ true → Ends (m .count) told → Step (n, (told, outputOf call))
-  over told n f permitted = (refl, λ q. clash (sym q ∙ f))
-  over told n f strange = (refl, λ q. clash (sym q ∙ f))
+  over : (told : Told) (b : Bool) (n : Master) → isFree n ≡ true → Ends m told b → Step (n, (told, outputOf call))
+  over told b n f permitted = (refl, λ q. clash (sym q ∙ f))
+  over told b n f strange = (refl, λ q. clash (sym q ∙ f))
 
   step : (turn : Behind) → Does m call turn → Step turn
   unfolding sendingOf sentOf
   step turn (stays told q) = quiet told q
-  step turn (begins which rec at f free s r) =
-      let e = front which m rec 1 at (outputOf call) in
-      ((first f e, behind which m rec 1 at (outputOf call)), λ _. e)
-  step turn (repeats g at f x r) =
-      let e = front again (withLine m g) (m .rec) (m .count + 1) at (outputOf call) in
-      ((same refl (e ∙ sym (k f)), behind again (withLine m g) (m .rec) (m .count + 1) at (outputOf call)), λ _. e)
-  step turn (ends told e f b) = over told (turn .0) refl e
+  step turn (begins which rec f free s r) =
+      let e = front which m rec 1 (callTime call) (outputOf call) in
+      ((first f e, behind which m rec 1 (callTime call) (outputOf call)), λ _. e)
+  step turn (repeats g f x r) =
+      let e = front again (withLine m g) (m .rec) (m .count + 1) (callTime call) (outputOf call) in
+      ((same refl (e ∙ sym (k f)), behind again (withLine m g) (m .rec) (m .count + 1) (callTime call) (outputOf call)), λ _. e)
+  step turn (ends told o e f b) = over told o (turn .0) refl e
   step turn (givesUp ground f c) = (refl, λ q. clash (sym q))
 
 all-sent : (held : List ℕ) (m : Master) → inRanges m ≡ true → Holds held m → (calls : List Call) → Sent held m calls

@@ -7,10 +7,9 @@ use native.Mathlib.Omega.{arith}
 use lib.Dec.{eqb}
 use lib.ListN.{length}
 use borrow.Author.Tests.{eqb-true, eqb-false}
-use Rattle.forms.proofs.Found.{each-line}
 use Rattle.master.specs.declared.state.Master.{Master}
 use Rattle.master.specs.declared.answers.Reason as r
-use Rattle.master.proofs.Ranges.{lined, passes}
+use Rattle.master.proofs.Ranges.{passes}
 use Rattle.master.proofs.Sends.{gave-up, sent-again, no-poll, polled, waits, silent, tick-free, tick-busy}
 use Rattle.masterhearing.proofs.Hears.{ignoring, hear-late}
 use Rattle.conduct.specs.Times.{clockAfter}
@@ -30,17 +29,13 @@ use Rattle.reading.specs.Reading.{recordIn, checks, readingOf}
 use Rattle.writing.specs.Writing.{sentOf}
 use Rattle.clock.specs.Clock.{runOut}
 use Rattle.masterrules.specs.Rules.{pollOf, isFailure, answersTo, permittedAnswer}
+use Rattle.masterrules.specs.Times.{operationFits}
 use Rattle.judging.specs.Judging.{answeredBy, judgeOf}
-use Rattle.master.specs.State.{sendable, inRanges, callFault, withLine, givenUpState}
+use Rattle.master.specs.State.{sendable, fitsFree, inRanges, callFault, withLine, givenUpState}
 use Rattle.master.specs.Sending.{t0Limit, t2Limit, sendingOf, failedOf, offerFault, offerOf, pollingOf, waitingOf, tickOf}
 use Rattle.masterhearing.specs.Hearing.{hearOf}
 use Rattle.master.specs.Answers as t
 use Rattle.conduct.specs.Master.Timed.{Free, Busy, TicksBeforeT0, TicksFromT0, TicksBeforeT2, TicksFromT2, GivesUpFromT2, IgnoresFromT2, HearsAt1999, IgnoresAt2000}
-
--- T0 is 20,000 on each line
-twenty-seconds : (m : Master) → inRanges m ≡ true → t0Limit m ≡ 20000
-unfolding t0Limit lineOf
-twenty-seconds m h = eqb-true _ _ (each-line (λ (l : ℕ). eqb (lineOf l .t0) 20000) refl (m .line) (lined m h))
 
 module _ (m : Master) (f : Free m) (out : List ℕ) (room : longest ≤ length out) where
   -- a tick while free looks at T0
@@ -48,11 +43,11 @@ module _ (m : Master) (f : Free m) (out : List ℕ) (room : longest ≤ length o
   free-tick at = tick-free m at out (passes m (length out) (f .ranged) room) (eqb-true (m .count) 0 (f .free))
 
   module _ (ms : ℕ) where
-    rests : ms < 20000 → tickOf m (clockAfter (m .t0) ms) out ≡ (m, (t.nothing, out))
-    rests l = sym (no-poll m _ out 20000 (sym (twenty-seconds m (f .ranged))) (still-runs (m .t0) ms 20000 (f .start) (omega arith) l) ∙ free-tick _)
+    rests : ms < 2 ^ 32 → ms < t0Limit m → tickOf m (clockAfter (m .t0) ms) out ≡ (m, (t.nothing, out))
+    rests k l = sym (no-poll m _ out (t0Limit m) refl (still-runs (m .t0) ms (t0Limit m) (f .start) k l) ∙ free-tick _)
 
-    polls : 20000 ≤ ms → ms < 2 ^ 32 → tickOf m (clockAfter (m .t0) ms) out ≡ sendingOf t.poll m (pollOf (m .line)) 1 (clockAfter (m .t0) ms) out
-    polls l k = sym (polled m _ out 20000 (sym (twenty-seconds m (f .ranged))) (has-run-out (m .t0) ms 20000 (f .start) k l) (pollOf (m .line)) refl ∙ free-tick _)
+    polls : t0Limit m ≤ ms → ms < 2 ^ 32 → tickOf m (clockAfter (m .t0) ms) out ≡ sendingOf t.poll m (pollOf (m .line)) 1 (clockAfter (m .t0) ms) out
+    polls l k = sym (polled m _ out (t0Limit m) refl (has-run-out (m .t0) ms (t0Limit m) (f .start) k l) (pollOf (m .line)) refl ∙ free-tick _)
 
 pub ticks-before-t0 : TicksBeforeT0
 ticks-before-t0 = rests
@@ -100,11 +95,11 @@ pub hears-at-1999 : HearsAt1999
 unfolding numeralOn numberOn leftOf inSet total checksumOf checkText lineOf forms onLine lookIn typeRow formOf dataType slotsIn countOf slotsOf
     widthIn widthOf recordOf leadOf isDecimal permits ruled permitsNumber permitsRecord textOf narrow valueOf numberWidth permittedFrom numberFits
     permitted permitsValue permitsValues countText summedOf fieldOf frameChecks outside wrongLetter badValue valuesIn misshapen fieldChecks recordIn
-    checks readingOf runOut sendable inRanges callFault isFailure answersTo permittedAnswer answeredBy judgeOf sentOf sendingOf offerFault offerOf hearOf
+    checks readingOf runOut operationFits sendable fitsFree inRanges callFault isFailure answersTo permittedAnswer answeredBy judgeOf sentOf sendingOf offerFault offerOf hearOf
 hears-at-1999 = refl
 
 pub ignores-at-2000 : IgnoresAt2000
 unfolding numeralOn leftOf inSet lineOf forms onLine lookIn typeRow formOf dataType slotsIn countOf slotsOf leadOf isDecimal permits ruled
-    permitsNumber permitsRecord textOf narrow numberWidth permittedFrom numberFits permitsValue permitsValues runOut sendable inRanges callFault sendingOf
+    permitsNumber permitsRecord textOf narrow numberWidth permittedFrom numberFits permitsValue permitsValues runOut operationFits sendable fitsFree inRanges callFault sendingOf
     offerFault offerOf hearOf
 ignores-at-2000 = refl

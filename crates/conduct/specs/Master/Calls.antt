@@ -16,6 +16,11 @@ pub data Call : Type 0 where
   ticks : ℕ → List ℕ → Call
   hears : ℕ → List ℕ → List ℕ → Call
 
+abbrev pub callTime : Call → ℕ
+callTime (offers at rec out) = at
+callTime (ticks at out) = at
+callTime (hears at frame out) = at
+
 abbrev pub outputOf : Call → List ℕ
 outputOf (offers at rec out) = out
 outputOf (ticks at out) = out

@@ -17,7 +17,7 @@ use Rattle.reading.specs.Reading.{readingOf}
 use Rattle.clock.specs.Counters.{numberIn}
 use Rattle.masterrules.specs.Rules.{isFailure, permittedAnswer}
 use Rattle.master.specs.declared.state.Master.{Master}
-use Rattle.master.specs.State.{isFree, inRanges, withLine, answeredState, givenUpState}
+use Rattle.master.specs.State.{isFree, inRanges, withLine, answeredState, answeredWith, givenUpState}
 use Rattle.master.specs.Sending.{Behind, sendingOf}
 use Rattle.masterhearing.specs.Hearing.{hearOf}
 use Rattle.master.specs.Answers as t
@@ -41,12 +41,12 @@ HearsThirdFailure =
     (m : Master) (frame out : List ℕ) (rec : Record) → readingOf (m .line) frame ≡ accepted rec (m .number .0) → isFailure rec ≡ true → m .count ≡ 3
     → HeardInTime m frame out (λ at. (givenUpState (withLine m true), (t.givenUp t.rejected 3, out)))
 
--- any other record with that number ends the telegram as answered: a permitted answer with its record,
+-- any other record with that number ends the telegram as answered: a permitted answer with its record, which may tell the key position,
 abbrev pub HearsAnswer : Type 0
 HearsAnswer =
     (m : Master) (frame out : List ℕ) (rec : Record) → readingOf (m .line) frame ≡ accepted rec (m .number .0) → isFailure rec ≡ false
     → permittedAnswer (m .line) (typeOf (m .rec)) (typeOf rec) ≡ true
-    → HeardInTime m frame out (λ at. (answeredState (withLine m true), (t.answered rec (m .count), out)))
+    → HeardInTime m frame out (λ at. (answeredWith (withLine m true) rec, (t.answered rec (m .count), out)))
 
 -- or an answer of another kind,
 abbrev pub HearsOtherKind : Type 0

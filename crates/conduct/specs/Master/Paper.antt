@@ -26,11 +26,11 @@ telegram text = lf ∷ (codes text ++ (cr ∷ []))
 abbrev pub PollRow : Type 0
 PollRow = ℕ × (Record × (List ℕ × List ℕ))
 
--- sends t; on line 1 sends r for B
+-- on line 1 r for B (001 section 6.2), on line 2 r for 5 (section 7.3), on line 3 t (section 8.6)
 abbrev pub paperPolls : List PollRow
 paperPolls =
     (1, (Request (code "B"), (telegram "08r0BB72", telegram "08r1BB71"))) ∷
-    (2, (Idling (code "t"), (telegram "08t0Bt3E", telegram "08t1Bt3D"))) ∷
+    (2, (Request (code "5"), (telegram "08r0B57F", telegram "08r1B57E"))) ∷
     (3, (Idling (code "t"), (telegram "08t0Bt3E", telegram "08t1Bt3D"))) ∷
     []
 

@@ -10,7 +10,7 @@ use Rattle.records.specs.declared.records.Record.the-variants.{Approved, Train}
 use Rattle.masterrules.specs.Rules.{pollOf}
 use Rattle.master.specs.declared.state.Master.{Master}
 use Rattle.master.specs.State.{isFree, inRanges, started, withLine, givenUpState}
-use Rattle.master.specs.Sending.{Behind, sendingOf, offerOf, tickOf}
+use Rattle.master.specs.Sending.{Behind, t0Limit, sendingOf, offerOf, tickOf}
 use Rattle.masterhearing.specs.Hearing.{hearOf}
 use Rattle.master.specs.Answers as t
 use Rattle.conduct.specs.Times.{clockAfter}
@@ -36,11 +36,11 @@ Rests m out b = b ≡ (m, (t.nothing, out))
 
 -- while free, before T0 has run out, a tick does nothing; from then on it sends the poll, with count 1
 abbrev pub TicksBeforeT0 : Type 0
-TicksBeforeT0 = (m : Master) → Free m → (out : List ℕ) → longest ≤ length out → (ms : ℕ) → ms < 20000 → Rests m out (tickOf m (clockAfter (m .t0) ms) out)
+TicksBeforeT0 = (m : Master) → Free m → (out : List ℕ) → longest ≤ length out → (ms : ℕ) → ms < 2 ^ 32 → ms < t0Limit m → Rests m out (tickOf m (clockAfter (m .t0) ms) out)
 
 abbrev pub TicksFromT0 : Type 0
 TicksFromT0 =
-    (m : Master) → Free m → (out : List ℕ) → longest ≤ length out → (ms : ℕ) → 20000 ≤ ms → ms < 2 ^ 32
+    (m : Master) → Free m → (out : List ℕ) → longest ≤ length out → (ms : ℕ) → t0Limit m ≤ ms → ms < 2 ^ 32
     → tickOf m (clockAfter (m .t0) ms) out ≡ sendingOf t.poll m (pollOf (m .line)) 1 (clockAfter (m .t0) ms) out
 
 -- while not free, before T2 has run out, a tick does nothing

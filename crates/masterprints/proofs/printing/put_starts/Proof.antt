@@ -17,6 +17,9 @@ slice-aggregate-number-2 c = search needs
 number-requires-2 : tie.Need-number-requires-2
 number-requires-2 c κs = search needs
 
+put-operation-requires : tie.Need-put-operation-requires
+put-operation-requires c κs = search needs
+
 same-length : tie.Need-same-length
 same-length c = search needs
 
@@ -24,8 +27,9 @@ returns : tie.Need-returns
 unfolding startsText
 returns c =
     let a = c .before .before in
-    let b = a .before .before .before .before .before in
-    then _ _ _ _ _ _ _ _ (b .number .ensures) (a .number2 .ensures)
+    let b = a .before .before .before .before in
+    let d = b .before .before .before .before .before in
+    then _ _ _ _ _ _ _ _ (d .number .ensures) (then _ _ _ _ _ _ _ _ (b .number2 .ensures) (a .put-operation .ensures))
 
 pub put-starts-spec : {M : Type 1} → statement M
 put-starts-spec =
@@ -35,5 +39,6 @@ put-starts-spec =
     number-requires
     slice-aggregate-number-2
     number-requires-2
+    put-operation-requires
     same-length
     returns)

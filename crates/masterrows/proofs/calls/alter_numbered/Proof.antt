@@ -18,9 +18,13 @@ returns-3 c = rw (c .match .keys3)
 
 returns-4 : tie.Need-returns-4
 unfolding alterNumbered
-returns-4 c =
+returns-4 c = rw (c .match .keys4)
+
+returns-5 : tie.Need-returns-5
+unfolding alterNumbered
+returns-5 c =
     let m = c .match .rest in
-    rw (ne-eqb _ _ (m .0 .0 .1), ne-eqb _ _ (m .0 .1), ne-eqb _ _ (m .1))
+    rw (ne-eqb _ _ (m .0 .0 .0 .1), ne-eqb _ _ (m .0 .0 .1), ne-eqb _ _ (m .0 .1), ne-eqb _ _ (m .1))
 
 pub alter-numbered-spec : {M : Type 1} → statement M
-alter-numbered-spec = tie.close (tie.spec returns returns-2 returns-3 returns-4)
+alter-numbered-spec = tie.close (tie.spec returns returns-2 returns-3 returns-4 returns-5)

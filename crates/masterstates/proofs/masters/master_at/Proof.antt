@@ -34,16 +34,21 @@ part-requires-3 c κs = search needs
 four-said-requires-2 : tie.Need-four-said-requires-2
 four-said-requires-2 c κs = search needs
 
+byte-at-requires-5 : tie.Need-byte-at-requires-5
+byte-at-requires-5 c κs = search needs
+
 returns : tie.Need-returns
 unfolding masterAt
 returns c =
-    let p = c .before .before .before in
+    let d = c .before in
+    let p = d .before .before .before in
     let q = p .before .before in
     let r = q .before in
     rw (
-      c .four-said2 .ensures,
-      c .before .part3 .ensures,
-      c .before .before .four-said .ensures,
+      c .byte-at5 .ensures,
+      d .four-said2 .ensures,
+      d .before .part3 .ensures,
+      d .before .before .four-said .ensures,
       p .part2 .ensures,
       p .before .record-at .ensures,
       q .part .ensures,
@@ -67,4 +72,5 @@ master-at-spec =
     four-said-requires
     part-requires-3
     four-said-requires-2
+    byte-at-requires-5
     returns)

@@ -1,4 +1,4 @@
--- `put_master` puts head, starts and record. Assumes nothing.
+-- `put_master` puts head, starts, flag and record. Assumes nothing.
 use Rattle.masterstates.proofs.MasterBlock.{master-put}
 use borrow.Author.Needs.{needs}
 use Rattle.masterstates.proofs.masters.put_master.Statement.{statement}
@@ -13,6 +13,12 @@ put-four-requires c κs = search needs
 put-four-requires-2 : tie.Need-put-four-requires-2
 put-four-requires-2 c κs = search needs
 
+flag-byte-requires : tie.Need-flag-byte-requires
+flag-byte-requires c κs = search needs
+
+put-byte-requires : tie.Need-put-byte-requires
+put-byte-requires c κs = search needs
+
 put-block-requires : tie.Need-put-block-requires
 put-block-requires c κs = search needs
 
@@ -22,10 +28,12 @@ same-length c = search needs
 returns : tie.Need-returns
 returns c =
     let p = c .before .before in
-    let q = p .before .before .before .before in
+    let f = p .before .before .before .before in
+    let q = f .before .before .before .before .before in
     let r = q .before .before .before .before in
     let s = r .before .before .before .before in
-    master-put (s .before .before .before .before .args .m) _ _ _ _ _ _ _ _ _ _ (s .put-head .ensures) (r .put-four .ensures) (q .put-four2 .ensures) (p .put-block .ensures)
+    master-put (s .before .before .before .before .args .m) _ _ _ _ _ _ _ _ _ _ _ _ _ (s .put-head .ensures) (r .put-four .ensures) (q .put-four2 .ensures)
+    (f .before .flag-byte .ensures) (f .put-byte .ensures) (p .put-block .ensures)
 
 pub put-master-spec : {M : Type 1} → statement M
 put-master-spec =
@@ -34,6 +42,8 @@ put-master-spec =
     put-head-requires
     put-four-requires
     put-four-requires-2
+    flag-byte-requires
+    put-byte-requires
     put-block-requires
     same-length
     returns)

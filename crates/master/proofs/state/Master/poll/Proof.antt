@@ -12,8 +12,8 @@ use borrow.Author.Needs.{needs}
 use Rattle.master.proofs.state.Master.poll.Statement.{statement}
 use Rattle.master.proofs.state.Master.poll.Tie as tie
 
-t0-limit-requires : tie.Need-t0-limit-requires
-t0-limit-requires c κs = search needs
+t0-of-requires : tie.Need-t0-of-requires
+t0-of-requires c κs = search needs
 
 run-out-requires : tie.Need-run-out-requires
 run-out-requires c κs = search needs
@@ -24,10 +24,10 @@ nothing-requires c κs = search needs
 returns : tie.Need-returns
 returns c =
     let a = c .before .before .before .before .before .args in
-    let t0-limit = c .before .before .before .t0-limit in
+    let t0-of = c .before .before .before .t0-of in
     let late = sym (c .before .before .run-out .ensures) ∙ not-true _ (c .before .if1 .taken) in
     ap (λ (s : Step). stepped s (now (a .out))) (c .nothing .ensures)
-    ∙ no-poll (a .self) (a .at) (now (a .out)) (t0-limit .result) (t0-limit .ensures) late
+    ∙ no-poll (a .self) (a .at) (now (a .out)) (t0-of .result) (t0-of .ensures) late
 
 poll-of-requires : tie.Need-poll-of-requires
 poll-of-requires c κs = search needs
@@ -47,19 +47,19 @@ same-length c = search needs
 returns-2 : tie.Need-returns-2
 returns-2 c =
     let a = c .before .before .before .before .before .before .before .before .before .args in
-    let t0-limit = c .before .before .before .before .before .before .before .t0-limit in
+    let t0-of = c .before .before .before .before .before .before .before .t0-of in
     let run-out = c .before .before .before .before .before .before .run-out in
     let if1 = c .before .before .before .before .before .if1 in
     let poll-of = c .before .before .before .before .poll-of in
     c .before .before .send .ensures
-    ∙ polled (a .self) (a .at) (now (a .out)) (t0-limit .result) (t0-limit .ensures) (sym (run-out .ensures) ∙ not-false _ (if1 .left)) (poll-of .result)
+    ∙ polled (a .self) (a .at) (now (a .out)) (t0-of .result) (t0-of .ensures) (sym (run-out .ensures) ∙ not-false _ (if1 .left)) (poll-of .result)
     (poll-of .ensures)
 
 pub poll-spec : {M : Type 1} → statement M
 poll-spec =
     tie.close
     (tie.spec
-    t0-limit-requires
+    t0-of-requires
     run-out-requires
     nothing-requires
     returns

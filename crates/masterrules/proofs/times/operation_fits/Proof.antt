@@ -1,0 +1,19 @@
+-- `masterrules::times::operation_fits` meets its contract. Assumes nothing.
+use Rattle.masterrules.specs.Times.{operationFits}
+use borrow.Author.Needs.{needs}
+use Rattle.masterrules.proofs.times.operation_fits.Statement.{statement}
+use Rattle.masterrules.proofs.times.operation_fits.Tie as tie
+
+reduces-requires : tie.Need-reduces-requires
+reduces-requires c κs = search needs
+
+returns : tie.Need-returns
+unfolding operationFits
+returns c = rw (c .before .if1 .taken) (c .reduces .ensures)
+
+returns-2 : tie.Need-returns-2
+unfolding operationFits
+returns-2 c = rw (c .if1 .left)
+
+pub operation-fits-spec : {M : Type 1} → statement M
+operation-fits-spec = tie.close (tie.spec reduces-requires returns returns-2)

@@ -1,0 +1,15 @@
+-- `masterrules::times::reduces` compares the two limits of the row. Assumes nothing.
+use Rattle.masterrules.specs.Times.{reduces}
+use borrow.Author.Needs.{needs}
+use Rattle.masterrules.proofs.times.reduces.Statement.{statement}
+use Rattle.masterrules.proofs.times.reduces.Tie as tie
+
+line-of-requires : tie.Need-line-of-requires
+line-of-requires c κs = search needs
+
+returns : tie.Need-returns
+unfolding reduces
+returns c = rw (← (c .before .line-of .ensures))
+
+pub reduces-spec : {M : Type 1} → statement M
+reduces-spec = tie.close (tie.spec line-of-requires returns)
