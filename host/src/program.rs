@@ -5,6 +5,7 @@ use std::ffi::OsStr;
 use std::io::{BufRead, BufReader, Result, Write};
 use std::path::Path;
 use std::process::{Child, ChildStdin, ChildStdout, Command, Stdio};
+use std::sync::OnceLock;
 
 /// The running program; it ends when this is dropped, because its input ends then.
 pub struct Program {
@@ -17,6 +18,24 @@ pub struct Program {
 pub fn command(path: impl AsRef<OsStr>) -> Command {
     let mut command = Command::new(concat!(env!("CARGO_MANIFEST_DIR"), "/../tools/run"));
     command.arg(path);
+    command
+}
+
+/// The command that starts a built program itself, without the shell and the status of `tools/run`:
+/// for comparisons, which start it thousands of times. What must stand before it is asked once.
+pub fn started(path: impl AsRef<OsStr>) -> Command {
+    static BEFORE: OnceLock<Vec<String>> = OnceLock::new();
+    let before = BEFORE.get_or_init(|| {
+        let asked = command("--before").output().expect("tools/run runs");
+        assert!(asked.status.success(), "tools/run knows this machine");
+        let words = String::from_utf8(asked.stdout).expect("it says text");
+        words.lines().map(Into::into).collect()
+    });
+    let Some((first, more)) = before.split_first() else {
+        return Command::new(path);
+    };
+    let mut command = Command::new(first);
+    command.args(more).arg(path);
     command
 }
 

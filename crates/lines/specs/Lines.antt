@@ -8,7 +8,7 @@ use Rattle.laws.specs.Truth.{from, oneOf}
 use Rattle.laws.specs.Text.{codes}
 use Rattle.lines.specs.declared.lines.Line.{Line}
 
--- a row: the type of the poll, T0 while it is reduced, T0, and whether A carries the key position (on line 3)
+-- a row: the type of the poll, T0 while it is reduced and T0 (the same where it never is), and whether A carries the key position (on line 3)
 abbrev pub lineRow : Char → ℕ → ℕ → Bool → Line
 lineRow poll reduced t0 keyed = record { poll = code poll; reduced = reduced; t0 = t0; keyed = keyed }
 

@@ -5,7 +5,7 @@ ghost use Rattle.lines.specs.Lines.{isLine, lineOf, isKey};
 // How many lines there are.
 pub const LINE_COUNT: usize = 3;
 
-// A line: the type that the master polls with, T0's limit while it is reduced, T0's limit, and whether A carries a key position when it answers t.
+// A line: the type that the master polls with, T0's limit while it is reduced and T0's limit (the same where it never is), and whether A carries a key position when it answers t.
 pub struct Line {
     pub poll: u8,
     pub reduced: u32,

@@ -5,7 +5,7 @@
 #![allow(dead_code)]
 
 use host::listing::listing;
-use host::program::command;
+use host::program::started;
 use host::replay::replay;
 use std::fs::{self, File};
 use std::io::{ErrorKind, Write};
@@ -59,7 +59,7 @@ impl Built {
         stdin: Stdio,
         feed: impl FnOnce(ChildStdin) -> std::io::Result<()> + Send,
     ) -> Vec<u8> {
-        let mut child = command(self.path())
+        let mut child = started(self.path())
             .stdin(stdin)
             .stdout(Stdio::piped())
             .stderr(Stdio::piped())
