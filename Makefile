@@ -7,12 +7,14 @@
 # make try: runs the two C examples against each other over pseudo-terminals.
 # make check: the gate.
 # make soak FACTOR=20: compares the library with the second version, 20 times as much as the gate does.
+# make emulated CHUNKS=3: the tests through the C face in an emulator, on a machine that is not x86-64; it installs Debian packages.
 # make bench: measures how fast the library is.
 # make help: these lines.
 LINE ?= 1
 SEED ?= 33
 SECONDS ?= 90
 FACTOR ?= 20
+CHUNKS ?= 3
 # only words of the command line: a file that the environment names is not overwritten
 LOG =
 PANEL =
@@ -41,7 +43,7 @@ ENDS := $(if $(filter x86_64,$(MACHINE)),$(ARCHIVE),dist/scenes)
 # $(call need,COMMAND): stops with one line where the machine lacks a command
 need = @command -v $(1) > /dev/null || { echo "make $@ needs $(1), which is not found" >&2; exit 2; }
 
-.PHONY: all help check list replay demo scene input try soak bench shared install clean
+.PHONY: all help check list replay demo scene input try soak emulated bench shared install clean
 # two proofs at once would write the same files; rt itself uses all processors
 .NOTPARALLEL:
 # exported, so that a name with spaces reaches the shell as one word
@@ -125,6 +127,10 @@ demo: $(ENDS)
 soak: $(ARCHIVE)
 	$(call need,cargo)
 	@$(HOST) --release --bin compare $$((100 * $(FACTOR)))
+
+emulated: $(ARCHIVE)
+	$(call need,cargo)
+	@tools/emulated $(CHUNKS)
 
 bench: $(ARCHIVE) dist/listing
 	$(call need,cargo)
