@@ -2,16 +2,15 @@
 //! and rules J1 to J10. The ends are reached by the rows of docs/SCENES.md, so that
 //! the program `scenes`, the second version or the library can stand behind them.
 
+mod people;
+
 use crate::demand::{summary, Item};
 use crate::logs::Mark;
-use crate::making::any_form;
 use crate::odds::{Fate, Odds};
 use crate::random::Random;
-use crate::reading::{read, Reading};
-use crate::records::{by_master, data_type, Record};
+use crate::reading::read;
 use crate::script::Bench;
-use crate::timeline::{bytes_in, bytes_of, count_in, in_words, packets, readable};
-use crate::words::shown;
+use crate::timeline::{bytes_in, bytes_of, count_in, in_words, readable};
 
 /// Two ends that answer rows.
 pub trait Ends {
@@ -128,52 +127,6 @@ impl<E: Ends> Run<'_, E> {
         if self.odds.panel > 0 && self.random.one_in(self.odds.panel) {
             self.panel();
         }
-    }
-
-    /// The reading of a telegram of one of these types with random permitted values.
-    fn record(&mut self, wanted: impl Fn(u8) -> bool) -> Reading {
-        loop {
-            let telegram = any_form(&mut self.random, self.line);
-            match read(self.line, &telegram) {
-                Ok(reading) if wanted(reading.type_byte) => return reading,
-                _ => {}
-            }
-        }
-    }
-
-    fn offer(&mut self) {
-        let (line, now) = (self.line, self.now);
-        let reading = self.record(|type_byte| by_master(line, type_byte));
-        let record = shown(&Record::read(line, &reading));
-        let answer = self.ends.call(&format!("master offer {now} 66 {record}"));
-        self.master(&answer, "");
-    }
-
-    /// The driver turns the key (001 8.8).
-    fn turn_key(&mut self) {
-        let key = char::from(self.random.one_of(b"AXY"));
-        self.ends.call(&format!("desk key {key}"));
-        self.say("P", &format!("turns the key to {key}"), "");
-    }
-
-    fn panel(&mut self) {
-        let line = self.line;
-        if line == 3 && self.random.one_in(4) {
-            return self.turn_key();
-        }
-        let reading = self.record(|type_byte| Some(type_byte) == data_type(line));
-        let record = shown(&Record::read(line, &reading));
-        let (call, what) = match self.random.below(3) {
-            0 => ("set", "sets for r"),
-            _ => ("queue", "queues"),
-        };
-        let answer = self.ends.call(&format!("desk {call} {record}"));
-        let full = if answer.starts_with("done") {
-            ""
-        } else {
-            "refused: the queue holds 8"
-        };
-        self.say("P", &format!("{what} {}", packets(&reading)), full);
     }
 
     /// What a call of the master told.

@@ -5,7 +5,7 @@ use Prim.Native.Nat.{ℕ, _≤_, _<_}
 use native.Mathlib.Omega.{arith}
 use lib.Dec.{ltb}
 use borrow.Author.Tests.{lt-ltb, le-ltb, eq-eqb, ne-eqb, ltb-true, ltb-false}
-use Rattle.laws.specs.Truth.{both, either}
+use Rattle.laws.specs.Truth.{both}
 use Rattle.laws.proofs.Truths.{both-left, both-right, both-true}
 use Rattle.laws.specs.Numerals.{numeralOn, leftOf}
 use Rattle.lines.specs.Lines.{isLine, lineOf}
