@@ -2,7 +2,7 @@
 ghost use mathlib.Core.Path.{_≡_};
 ghost use Rattle.forms.specs.Forms.{slotsOf};
 ghost use Rattle.datafields.specs.Field.{outside, wrongLetter, badValue, misshapen, valuesIn};
-use characters::characters::SET;
+use characters::characters::in_set;
 use characters::slices::byte_at;
 use characters::slices::part;
 use characters::slices::wide;
@@ -13,18 +13,13 @@ use framing::answers::Spot;
 use values::values::permits_text;
 use values::values::value_of;
 
-// Check 9: the first byte outside the set, whose table is made once for the field.
+// Check 9: the first byte outside the set.
 pub fn outside_set(field: &[u8]) -> Spot
     ensures { λ r. ⌜ r ≡ outside 5 (now (field .entry)) ⌝ }
 {
-    let set = SET;
     let mut i: usize = 0;
     while i < field.len() {
-        let b = field[i];
-        if 127 < b {
-            return Spot::At(5 + i);
-        }
-        if !set[b as usize] {
+        if !in_set(field[i]) {
             return Spot::At(5 + i);
         }
         i = i + 1;
