@@ -1,29 +1,31 @@
 -- The codes of the set are below 128. Assumes nothing.
-use mathlib.Core.Path.{_≡_, refl, sym}
-use mathlib.Core.Bool.{Bool, true, false}
+use mathlib.Core.Path.{_≡_, sym}
+use mathlib.Core.Bool.{Bool, true, false, cond}
 use Prim.Native.Nat.{ℕ, _≤_, _<_}
-use Prim.Native.Char.{code}
 use native.Mathlib.Omega.{arith}
-use lib.Dec.{ltb}
-use borrow.Author.Tests.{ltb-true}
-use Rattle.laws.specs.Text.{codes}
-use Rattle.laws.proofs.Passes.{on-test, on-either, oneOf-passes, from-passes}
+use lib.Dec.{ltb, eqb}
+use borrow.Author.Needs.{needs}
+use borrow.Author.Tests.{ltb-true, eqb-true}
+use Rattle.laws.specs.Truth.{either}
+use Rattle.laws.proofs.Truths.{clash}
+use Rattle.laws.proofs.Passes.{on-test, on-cond, on-either}
 use Rattle.characters.specs.Characters.{inSet}
 
--- the test that each stretch of the set passes
-abbrev under : ℕ → Bool
-under b = ltb b 128
+-- what one test or another says of a code, each of them says
+either-low : (b : ℕ) (p q : Bool) → (p ≡ true → b < 128) → (q ≡ true → b < 128) → either p q ≡ true → b < 128
+either-low b p q f g h = on-either p q h f g
+
+-- a range that ends below 128, and a single code
+range-low : (b first end : ℕ) → end ≤ 128 → cond (ltb b first) false (ltb b end) ≡ true → b < 128
+range-low b first end l h = on-cond (ltb b first) false (ltb b end) h (λ _. clash) (λ _ k. omega (arith, ltb-true b end k))
+
+one-low : (b k : ℕ) → k < 128 → eqb b k ≡ true → b < 128
+one-low b k l h = omega (arith, eqb-true b k h)
 
 -- a code of the set is below 128
 pub low : (b : ℕ) → inSet b ≡ true → b < 128
 unfolding inSet
-low b h =
-    ltb-true b 128
-    (on-either _ _ h (oneOf-passes under (codes "%()-:+ ") b refl)
-    (λ h. on-either _ _ h (from-passes under (code "0") (code "9") b refl)
-    (λ h. on-either _ _ h (from-passes under (code "A") (code "Z") b refl)
-    (λ h. on-either _ _ h (from-passes under (code "a") (code "z") b refl)
-    (λ h. on-either _ _ h (from-passes under 0x5B 0x5D b refl) (from-passes under 0x7B 0x7D b refl))))))
+low b = search (needs, either-low, range-low, one-low) depth 16
 
 -- so none from 128 on is in the set
 pub high : (b : ℕ) → 128 ≤ b → false ≡ inSet b

@@ -2,14 +2,24 @@
 use Prim.Native.Nat.{ℕ}
 use Prim.Native.Char.{code}
 use mathlib.Core.Bool.{Bool}
-use Rattle.laws.specs.Truth.{either, from, oneOf}
-use Rattle.laws.specs.Text.{codes}
+use lib.Dec.{eqb}
+use Rattle.laws.specs.Truth.{either, from}
 
--- % ( ) - : + space, 0-9, A-Z, a-z, and the six national letters 5B to 5D and 7B to 7D hex
+infixl 20 _or_
+abbrev _or_ : Bool → Bool → Bool
+a or b = either a b
+
+-- the ranges of the set, in the order in which the standard's table lists them
 unfoldable pub inSet : ℕ → Bool
 inSet b =
-    either (oneOf (codes "%()-:+ ") b)
-    (either (from (code "0") (code "9") b)
-    (either (from (code "A") (code "Z") b)
-    (either (from (code "a") (code "z") b)
-    (either (from 0x5B 0x5D b) (from 0x7B 0x7D b)))))
+    eqb b (code "%")  -- percent
+    or from (code "(") (code ")") b  -- brackets
+    or eqb b (code "-")  -- minus
+    or eqb b (code ":")  -- colon
+    or eqb b (code "+")  -- plus
+    or from (code "0") (code "9") b  -- digits
+    or from (code "A") (code "Z") b  -- capitals
+    or eqb b (code " ")  -- space
+    or from (code "a") (code "z") b  -- small letters
+    or from 0x7B 0x7D b  -- æ ø å
+    or from 0x5B 0x5D b  -- Æ Ø Å

@@ -1,141 +1,28 @@
 // The limited character set (rule B7; 001 section 5.3.1).
 ghost use mathlib.Core.Path.{_≡_};
+ghost use Rattle.laws.specs.Truth.{from};
 ghost use Rattle.characters.specs.Characters.{inSet};
 
-// Whether each code below 128 is in the set.
-pub const SET: [bool; 128] = [
-    false,
-    false,
-    false,
-    false,
-    false,
-    false,
-    false,
-    false,
-    false,
-    false,
-    false,
-    false,
-    false,
-    false,
-    false,
-    false,
-    false,
-    false,
-    false,
-    false,
-    false,
-    false,
-    false,
-    false,
-    false,
-    false,
-    false,
-    false,
-    false,
-    false,
-    false,
-    false,
-    true,
-    false,
-    false,
-    false,
-    false,
-    true,
-    false,
-    false,
-    true,
-    true,
-    false,
-    true,
-    false,
-    true,
-    false,
-    false,
-    true,
-    true,
-    true,
-    true,
-    true,
-    true,
-    true,
-    true,
-    true,
-    true,
-    true,
-    false,
-    false,
-    false,
-    false,
-    false,
-    false,
-    true,
-    true,
-    true,
-    true,
-    true,
-    true,
-    true,
-    true,
-    true,
-    true,
-    true,
-    true,
-    true,
-    true,
-    true,
-    true,
-    true,
-    true,
-    true,
-    true,
-    true,
-    true,
-    true,
-    true,
-    true,
-    true,
-    true,
-    true,
-    true,
-    false,
-    false,
-    false,
-    true,
-    true,
-    true,
-    true,
-    true,
-    true,
-    true,
-    true,
-    true,
-    true,
-    true,
-    true,
-    true,
-    true,
-    true,
-    true,
-    true,
-    true,
-    true,
-    true,
-    true,
-    true,
-    true,
-    true,
-    true,
-    true,
-    true,
-    true,
-    true,
-    false,
-    false,
-];
+// Whether a byte is one of a range, from its first to its last.
+fn from(first: u8, last: u8, b: u8) -> bool
+    ensures { λ r. ⌜ r ≡ from first last b ⌝ }
+{
+    first <= b && b <= last
+}
 
+// Whether a byte is in the set: its ranges, in the order in which the standard's table lists them.
 pub fn in_set(b: u8) -> bool
     ensures { λ r. ⌜ r ≡ inSet b ⌝ }
 {
-    if b < 128 { SET[b as usize] } else { false }
+    b == b'%' // percent
+        || from(b'(', b')', b) // brackets
+        || b == b'-' // minus
+        || b == b':' // colon
+        || b == b'+' // plus
+        || from(b'0', b'9', b) // digits
+        || from(b'A', b'Z', b) // capitals
+        || b == b' ' // space
+        || from(b'a', b'z', b) // small letters
+        || from(0x7B, 0x7D, b) // æ ø å
+        || from(0x5B, 0x5D, b) // Æ Ø Å
 }

@@ -30,7 +30,7 @@ use Rattle.master.specs.State.{isFree, sendable, fitsFree, inRanges, cal
 pub no-pass : {A : Type 0} {x : No} → fails x ≡ good → A
 no-pass h = let z : _≡_ {A = ℕ} 0 1 = cc in let y : ⊥ = omega arith in absurd y
 
--- what a free state is by, in the order of its parts
+-- what is asked of a free state, in the order of its parts
 module _ (m : Master) where
   pub no-line : isLine (m .line) ≡ false → false ≡ fitsFree m
   unfolding fitsFree

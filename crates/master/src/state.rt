@@ -82,7 +82,7 @@ impl Master {
         }
     }
 
-    // Whether what a free state is by is in its ranges: the line, the number and the flag.
+    // What is asked of a free state: the line, the number and the flag are in their ranges.
     fn fits_free(self) -> bool
         ensures { λ r. ⌜ r ≡ fitsFree self ⌝ }
     {

@@ -1,14 +1,29 @@
--- The set counted, and what a packet permits in it. Assumes nothing.
-use mathlib.Core.Path.{refl, sym}
+-- The set listed and counted, and what a packet permits in it. Assumes nothing.
+use mathlib.Core.Path.{refl, sym, _∙_}
+use mathlib.Core.Bool.{false}
+use Rattle.laws.specs.Truth.{oneOf}
+use Rattle.laws.proofs.Listed.{listed-at}
+use Rattle.laws.proofs.Passes.{same-test, oneOf-passes}
 use Rattle.characters.specs.Characters.{inSet}
 use Rattle.forms.specs.Forms.{forms, slotsIn, countOf, slotsOf}
-use Rattle.characters.proofs.Codes.{high}
+use Rattle.characters.proofs.Codes.{low, high}
 use Rattle.roundtrips.proofs.Bytes.{permits-set}
-use Rattle.papers.specs.Set.{SeventyFive, NoneFrom128, NoCaret, LettersInSet, PermittedInSet}
+use Rattle.papers.specs.Set.{codesListed, AsListed, SeventyFive, ListedOnce, NoneFrom128, NoCaret, LettersInSet, PermittedInSet}
+
+-- under 128 each byte was looked at, and there is none behind
+pub as-listed : AsListed
+unfolding inSet
+as-listed b =
+    same-test (inSet b) (oneOf codesListed b)
+    (λ h. let l = low b h in sym (listed-at false (oneOf codesListed) 128 b l) ∙ listed-at false inSet 128 b l ∙ h)
+    (oneOf-passes inSet codesListed b refl)
 
 pub seventy-five : SeventyFive
 unfolding inSet
 seventy-five = refl
+
+pub listed-once : ListedOnce
+listed-once = refl
 
 pub none-from-128 : NoneFrom128
 none-from-128 b h = sym (high b h)

@@ -1,13 +1,24 @@
--- The limited character set (rules B7 and B8), counted, and the table's letters in it. Assumes nothing.
+-- The limited character set (rules B7 and B8), listed and counted, and the table's letters in it. Assumes nothing.
 use mathlib.Core.Path.{_≡_}
 use mathlib.Core.Bool.{Bool, true, false, cond}
+use mathlib.Core.List.{List, [], _∷_, _++_}
 use Prim.Native.Nat.{ℕ, zero, suc, _≤_}
-use Rattle.laws.specs.Truth.{both, every}
+use lib.ListN.{length}
+use Rattle.laws.specs.Truth.{both, oneOf, every}
+use Rattle.laws.specs.Text.{codes}
 use Rattle.characters.specs.Characters.{inSet}
 use Rattle.lines.specs.Lines.{isLine}
 use Rattle.forms.specs.Forms.{forms, Slot, slotsOf}
 use Rattle.formrows.specs.declared.rows.Form.{Form}
 use Rattle.packets.specs.Packets.{permits}
+
+-- the codes of document 01, one by one
+abbrev pub codesListed : List ℕ
+codesListed = codes "%()-:+ 0123456789ABCDEFGHIJKLMNOPQRSTUVWXYZabcdefghijklmnopqrstuvwxyz" ++ 0x5B ∷ 0x5C ∷ 0x5D ∷ 0x7B ∷ 0x7C ∷ 0x7D ∷ []
+
+-- the ranges say of every byte what the list says
+abbrev pub AsListed : Type 0
+AsListed = (b : ℕ) → inSet b ≡ oneOf codesListed b
 
 -- how many numbers under n pass a test
 abbrev pub howMany : (ℕ → Bool) → ℕ → ℕ
@@ -18,7 +29,11 @@ howMany p (suc n) = cond (p n) (suc (howMany p n)) (howMany p n)
 abbrev pub SeventyFive : Type 0
 SeventyFive = howMany inSet 128 ≡ 75
 
--- it is kept as a table of 128 entries: there is none behind it
+-- the list has as many, so none of them twice
+abbrev pub ListedOnce : Type 0
+ListedOnce = length codesListed ≡ 75
+
+-- no byte from 80 hex on is one
 abbrev pub NoneFrom128 : Type 0
 NoneFrom128 = (b : ℕ) → 128 ≤ b → inSet b ≡ false
 

@@ -1,21 +1,68 @@
 -- `characters::characters::in_set` meets its contract. Assumes nothing.
-use Rattle.characters.proofs.Codes.{high}
-use Rattle.laws.proofs.Listed.{listed-at}
+use mathlib.Core.Path.{_≡_, sym, _∙_}
+use mathlib.Core.Bool.{Bool, true, false}
+use mathlib.Core.Logic.{_⊎_, inl, inr}
+use borrow.Author.Tests.{eq-eqb, ne-eqb}
+use Rattle.laws.specs.Truth.{either, from}
 use Rattle.characters.specs.Characters.{inSet}
-use mathlib.Core.Bool.{false}
 use borrow.Author.Needs.{needs}
 use Rattle.characters.proofs.characters.in_set.Statement.{statement}
 use Rattle.characters.proofs.characters.in_set.Tie as tie
 
-array-read-result : tie.Need-array-read-result
-array-read-result c = search needs
+-- a test, and where it fails the next one: what the two come to
+or-next : {A B : Type 0} (p q r : Bool) → (A → (p ≡ true) × (r ≡ p)) → (B → (p ≡ false) × (r ≡ q)) → A ⊎ B → r ≡ either p q
+or-next p q r f g (inl a) = let h = f a .0 in rw (f a .1, h)
+or-next p q r f g (inr b) = let h = g b .0 in rw (h, g b .1)
+
+-- the ranges up to the last but one, and then the last
+all : (c : tie.Joined9) → inSet (c .before .before .before .before .before .before .before .before .before .args .b) ≡ either (c .if9 .if10) (from 0x5B 0x5D (c .before .before .before .before .before .before .before .before .before .args .b))
+unfolding inSet
+all c =
+    let c8 = c .before in
+    let c7 = c8 .before in
+    let c6 = c7 .before in
+    let c5 = c6 .before in
+    let c4 = c5 .before in
+    let c3 = c4 .before in
+    let c2 = c3 .before in
+    let c1 = c2 .before in
+    rw (
+      ← (or-next _ _ _ (λ a. (eq-eqb _ _ (a .0 .taken), a .1)) (λ a. (ne-eqb _ _ (a .0 .left), a .2 ∙ a .1 .ensures)) (c1 .if1 .came)),
+      ← (or-next _ _ _ (λ a. (a .0 .taken, a .1)) (λ a. (a .0 .left, a .1)) (c2 .if2 .came)),
+      ← (or-next _ _ _ (λ a. (a .0 .taken, a .1)) (λ a. (a .0 .left, a .1)) (c3 .if3 .came)),
+      ← (or-next _ _ _ (λ a. (a .0 .taken, a .1)) (λ a. (a .0 .left, a .1)) (c4 .if4 .came)),
+      ← (or-next _ _ _ (λ a. (a .0 .taken, a .1)) (λ a. (a .0 .left, a .2 ∙ a .1 .ensures)) (c5 .if5 .came)),
+      ← (or-next _ _ _ (λ a. (a .0 .taken, a .1)) (λ a. (a .0 .left, a .2 ∙ a .1 .ensures)) (c6 .if6 .came)),
+      ← (or-next _ _ _ (λ a. (a .0 .taken, a .1)) (λ a. (a .0 .left, a .1)) (c7 .if7 .came)),
+      ← (or-next _ _ _ (λ a. (a .0 .taken, a .1)) (λ a. (a .0 .left, a .2 ∙ a .1 .ensures)) (c8 .if8 .came)),
+      ← (or-next _ _ _ (λ a. (a .0 .taken, a .1)) (λ a. (a .0 .left, a .2 ∙ a .1 .ensures)) (c .if9 .came)),
+    )
+
+from-requires : tie.Need-from-requires
+from-requires c κs = search needs
+
+from-requires-2 : tie.Need-from-requires-2
+from-requires-2 c κs = search needs
+
+from-requires-3 : tie.Need-from-requires-3
+from-requires-3 c κs = search needs
+
+from-requires-4 : tie.Need-from-requires-4
+from-requires-4 c κs = search needs
+
+from-requires-5 : tie.Need-from-requires-5
+from-requires-5 c κs = search needs
+
+from-requires-6 : tie.Need-from-requires-6
+from-requires-6 c κs = search needs
 
 returns : tie.Need-returns
-unfolding inSet
-returns c = listed-at false inSet 128 (c .before .args .b) (c .if1 .taken)
+returns c = sym (rw (all (c .before), c .if10 .taken))
 
 returns-2 : tie.Need-returns-2
-returns-2 c = high (c .before .args .b) (c .if1 .left)
+returns-2 c = rw (all (c .before .before), c .before .if10 .left) (c .from6 .ensures)
 
 pub in-set-spec : {M : Type 1} → statement M
-in-set-spec = tie.close (tie.spec array-read-result returns returns-2)
+in-set-spec =
+    tie.close
+    (tie.spec from-requires from-requires-2 from-requires-3 from-requires-4 from-requires-5 from-requires-6 returns returns-2)
