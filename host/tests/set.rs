@@ -170,26 +170,40 @@ fn the_proved_program_takes_those_of_the_table() {
     }
 }
 
-/// The code that a range of the source begins or ends with: b'x', or two hex digits behind 0x.
-fn bound(word: &str) -> u8 {
-    match word.strip_prefix("0x") {
-        Some(digits) => u8::from_str_radix(digits, 16).expect(word),
-        None => word.strip_prefix("b'").expect(word).as_bytes()[0],
-    }
+/// The codes that stand in a row of the source: as b'x', as "x", or as two hex digits behind 0x.
+fn bounds(row: &str) -> Vec<u8> {
+    let bytes = row.as_bytes();
+    let quoted = bytes.windows(3).filter_map(|window| match window {
+        [b'\'', code, b'\''] | [b'"', code, b'"'] => Some(*code),
+        _ => None,
+    });
+    let hex = row.split("0x").skip(1);
+    let hex = hex.map(|rest| u8::from_str_radix(&rest[..2], 16).expect(row));
+    quoted.chain(hex).collect()
+}
+
+/// The codes of a file's ranges in their order: a row each, with what it is behind a mark.
+fn in_order(file: &str, mark: &str) -> Vec<u8> {
+    let path = Path::new(env!("CARGO_MANIFEST_DIR")).join("../crates/characters");
+    let source = fs::read_to_string(path.join(file)).expect(file);
+    let rows = source
+        .lines()
+        .filter_map(|line| line.trim().split_once(mark));
+    let ranges = rows.filter(|(range, _)| !range.is_empty());
+    ranges
+        .flat_map(|(range, name)| {
+            assert!(!name.trim().is_empty(), "{range}");
+            match bounds(range)[..] {
+                [only] => only..=only,
+                [first, last] => first..=last,
+                _ => panic!("{range}"),
+            }
+        })
+        .collect()
 }
 
 #[test]
 fn the_source_has_the_ranges_in_the_order_of_the_table() {
-    let path = Path::new(env!("CARGO_MANIFEST_DIR")).join("../crates/characters/src/characters.rt");
-    let source = fs::read_to_string(path).expect("the source");
-    let arms: Vec<_> = source
-        .lines()
-        .filter_map(|line| line.trim().split_once(" => true, // "))
-        .collect();
-    let ranges = arms.iter().flat_map(|(range, name)| {
-        assert!(!name.is_empty());
-        let (first, last) = range.split_once("..=").unwrap_or((range, range));
-        bound(first)..=bound(last)
-    });
-    assert_eq!(ranges.collect::<Vec<_>>(), codes());
+    assert_eq!(in_order("src/characters.rt", "// "), codes());
+    assert_eq!(in_order("specs/Characters.antt", "-- "), codes());
 }

@@ -5,11 +5,12 @@ use mathlib.Core.Bool.{Bool}
 use lib.Dec.{eqb}
 use Rattle.laws.specs.Truth.{either, from}
 
+-- a test, or another
 infixl 20 _or_
 abbrev _or_ : Bool → Bool → Bool
 a or b = either a b
 
--- the ranges of the set, in the order in which the standard's table lists them
+-- the ranges of the set, in the order in which the standard's table lists them; its row ^ has no code and is none of them
 unfoldable pub inSet : ℕ → Bool
 inSet b =
     eqb b (code "%")  -- percent

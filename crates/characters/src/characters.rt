@@ -10,7 +10,7 @@ fn from(first: u8, last: u8, b: u8) -> bool
     first <= b && b <= last
 }
 
-// Whether a byte is in the set: its ranges, in the order in which the standard's table lists them.
+// Whether a byte is in the set: its ranges, in the order in which the standard's table lists them. The row ^ has no code there and is none of them.
 pub fn in_set(b: u8) -> bool
     ensures { λ r. ⌜ r ≡ inSet b ⌝ }
 {
