@@ -5,7 +5,7 @@ use mathlib.Core.Bool.{Bool}
 use lib.Dec.{eqb}
 use Rattle.laws.specs.Truth.{either, from}
 
--- a test, or another
+-- one test holds, or the other
 infixl 20 _or_
 abbrev _or_ : Bool → Bool → Bool
 a or b = either a b
