@@ -11,7 +11,7 @@ use Rattle.laws.proofs.Truths.{clash}
 use Rattle.laws.proofs.Passes.{on-test, on-cond, on-either}
 use Rattle.characters.specs.Characters.{inSet}
 
--- what one test or another says of a code, each of them says
+-- where each of two tests says that a code is below 128, so does either of them
 either-low : (b : ℕ) (p q : Bool) → (p ≡ true → b < 128) → (q ≡ true → b < 128) → either p q ≡ true → b < 128
 either-low b p q f g h = on-either p q h f g
 

@@ -10,7 +10,7 @@ use Rattle.characters.proofs.Codes.{low, high}
 use Rattle.roundtrips.proofs.Bytes.{permits-set}
 use Rattle.papers.specs.Set.{codesListed, AsListed, SeventyFive, ListedOnce, NoneFrom128, NoCaret, LettersInSet, PermittedInSet}
 
--- under 128 each byte was looked at, and there is none behind
+-- a code of the set is below 128, where set and list are computed; a code of the list passes a range
 pub as-listed : AsListed
 unfolding inSet
 as-listed b =

@@ -9,12 +9,12 @@ use borrow.Author.Needs.{needs}
 use Rattle.characters.proofs.characters.in_set.Statement.{statement}
 use Rattle.characters.proofs.characters.in_set.Tie as tie
 
--- a test p that says what s says, and where it fails the next test, q: what the two come to
+-- the code tests p, which says what s says, and where p fails it tests q: what comes is s or q
 or-next : {A B : Type 0} {s p : Bool} (q r : Bool) → p ≡ s → (A → (p ≡ true) × (r ≡ p)) → (B → (p ≡ false) × (r ≡ q)) → A ⊎ B → r ≡ either s q
 or-next q r e f g (inl a) = let h = sym e ∙ f a .0 in rw (f a .1, e, h)
 or-next q r e f g (inr b) = let h = sym e ∙ g b .0 in rw (h, g b .1)
 
--- before a last test the one may stand for the other
+-- before a further test p may stand for s
 or-last : {s p : Bool} (q : Bool) → p ≡ s → either p q ≡ either s q
 or-last q e = rw e
 
