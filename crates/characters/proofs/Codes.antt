@@ -1,5 +1,5 @@
 -- The codes of the set are below 128. Assumes nothing.
-use mathlib.Core.Path.{_≡_, sym}
+use mathlib.Core.Path.{_≡_}
 use mathlib.Core.Bool.{Bool, true, false, cond}
 use Prim.Native.Nat.{ℕ, _≤_, _<_}
 use native.Mathlib.Omega.{arith}
@@ -8,7 +8,7 @@ use borrow.Author.Needs.{needs}
 use borrow.Author.Tests.{ltb-true, eqb-true}
 use Rattle.laws.specs.Truth.{either}
 use Rattle.laws.proofs.Truths.{clash}
-use Rattle.laws.proofs.Passes.{on-test, on-cond, on-either}
+use Rattle.laws.proofs.Passes.{on-cond, on-either}
 use Rattle.characters.specs.Characters.{inSet}
 
 -- where each of two tests says that a code is below 128, so does either of them
@@ -26,7 +26,3 @@ one-low b k l h = omega (arith, eqb-true b k h)
 pub low : (b : ℕ) → inSet b ≡ true → b < 128
 unfolding inSet
 low b = search (needs, either-low, range-low, one-low) depth 16
-
--- so none from 128 on is in the set
-pub high : (b : ℕ) → 128 ≤ b → false ≡ inSet b
-high b h = on-test (inSet b) (λ k. absurd (omega (arith, low b k))) sym

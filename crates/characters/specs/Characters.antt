@@ -1,4 +1,4 @@
--- The limited character set (rule B7; 001 section 5.3.1). Assumes nothing.
+-- The limited character set (rule B7; 001 section 5.3.1), whose last six characters are read by DS 2089. Assumes nothing.
 use Prim.Native.Nat.{ℕ}
 use Prim.Native.Char.{code}
 use mathlib.Core.Bool.{Bool}

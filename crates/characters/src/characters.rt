@@ -1,4 +1,4 @@
-// The limited character set (rule B7; 001 section 5.3.1).
+// The limited character set (rule B7; 001 section 5.3.1). Its last six characters are read by DS 2089, which has letters where ASCII has { | } and [ \ ].
 ghost use mathlib.Core.Path.{_≡_};
 ghost use Rattle.laws.specs.Truth.{from};
 ghost use Rattle.characters.specs.Characters.{inSet};

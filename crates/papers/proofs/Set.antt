@@ -1,12 +1,13 @@
 -- The set listed and counted, and what a packet permits in it. Assumes nothing.
 use mathlib.Core.Path.{refl, sym, _∙_}
 use mathlib.Core.Bool.{false}
+use native.Mathlib.Omega.{arith}
 use Rattle.laws.specs.Truth.{oneOf}
 use Rattle.laws.proofs.Listed.{listed-at}
-use Rattle.laws.proofs.Passes.{same-test, oneOf-passes}
+use Rattle.laws.proofs.Passes.{on-test, same-test, oneOf-passes}
 use Rattle.characters.specs.Characters.{inSet}
 use Rattle.forms.specs.Forms.{forms, slotsIn, countOf, slotsOf}
-use Rattle.characters.proofs.Codes.{low, high}
+use Rattle.characters.proofs.Codes.{low}
 use Rattle.roundtrips.proofs.Bytes.{permits-set}
 use Rattle.papers.specs.Set.{codesListed, AsListed, SeventyFive, ListedOnce, NoneFrom128, NoCaret, LettersInSet, PermittedInSet}
 
@@ -23,10 +24,10 @@ unfolding inSet
 seventy-five = refl
 
 pub listed-once : ListedOnce
-listed-once = refl
+listed-once = (refl, refl)
 
 pub none-from-128 : NoneFrom128
-none-from-128 b h = sym (high b h)
+none-from-128 b h = on-test (inSet b) (λ k. absurd (omega (arith, low b k))) (λ e. e)
 
 pub no-caret : NoCaret
 unfolding inSet

@@ -1,6 +1,6 @@
 -- The limited character set (rules B7 and B8), listed and counted, and the table's letters in it. Assumes nothing.
 use mathlib.Core.Path.{_≡_}
-use mathlib.Core.Bool.{Bool, true, false, cond}
+use mathlib.Core.Bool.{Bool, true, false, cond, not}
 use mathlib.Core.List.{List, [], _∷_, _++_}
 use Prim.Native.Nat.{ℕ, zero, suc, _≤_}
 use lib.ListN.{length}
@@ -29,9 +29,14 @@ howMany p (suc n) = cond (p n) (suc (howMany p n)) (howMany p n)
 abbrev pub SeventyFive : Type 0
 SeventyFive = howMany inSet 128 ≡ 75
 
--- the list has as many, so none of them twice
+-- no number stands twice in a list
+abbrev pub noneTwice : List ℕ → Bool
+noneTwice [] = true
+noneTwice (k ∷ ks) = both (not (oneOf ks k)) (noneTwice ks)
+
+-- the list has as many, and none of them twice
 abbrev pub ListedOnce : Type 0
-ListedOnce = length codesListed ≡ 75
+ListedOnce = (length codesListed ≡ 75) × (noneTwice codesListed ≡ true)
 
 -- no byte from 80 hex on is one
 abbrev pub NoneFrom128 : Type 0
