@@ -6,6 +6,7 @@
 use std::collections::BTreeSet;
 use std::fs;
 use std::io::Write;
+use std::os::unix::fs::PermissionsExt;
 use std::path::{Path, PathBuf};
 use std::process::{Command, Stdio};
 use std::sync::Mutex;
@@ -17,6 +18,12 @@ pub fn repository(path: &str) -> PathBuf {
 
 pub fn text(path: &str) -> String {
     fs::read_to_string(repository(path)).expect(path)
+}
+
+/// Writes a file that may run.
+pub fn program(path: &Path, text: &str) {
+    fs::write(path, text).expect("a file");
+    fs::set_permissions(path, fs::Permissions::from_mode(0o755)).expect("it may run");
 }
 
 /// Says once why tests do nothing. It writes past the test runner, which hides what a passed test
