@@ -31,19 +31,16 @@ SONAME = libin656.so.0
 
 SOURCES := $(shell find crates -name '*.rt' -o -name '*.antt') crates.txt
 MACHINE := $(shell uname -m)
-OTHER = is left out: the library links into x86-64 programs only, and this machine is $(MACHINE)
 # in656.pc for a prefix, a folder of libraries and one of headers
 PC = sed -e 's|@PREFIX@|$(1)|' -e 's|@LIBDIR@|$(2)|' -e 's|@INCLUDEDIR@|$(3)|' -e 's|@VERSION@|$(VERSION)|' include/in656.pc.in
 
-ARCHIVE := target/staticlib/libin656.a
+ARCHIVE := target/archive/$(MACHINE)/libin656.a
 HOST := cargo run --offline --quiet --manifest-path host/Cargo.toml
-# on a machine where the library does not link the program scenes shows the ends
-ENDS := $(if $(filter x86_64,$(MACHINE)),$(ARCHIVE),dist/scenes)
 
 # $(call need,COMMAND): stops with one line where the machine lacks a command
 need = @command -v $(1) > /dev/null || { echo "make $@ needs $(1), which is not found" >&2; exit 2; }
 
-.PHONY: all help check list replay demo scene input try soak emulated bench shared install clean
+.PHONY: all help check list replay demo scene input try soak emulated bench install clean
 # two proofs at once would write the same files; rt itself uses all processors
 .NOTPARALLEL:
 # exported, so that a name with spaces reaches the shell as one word
@@ -51,7 +48,7 @@ list: IN ?= samples/line1.cap
 replay: IN ?= samples/school.log
 export IN LOG
 
-all: dist/libin656.a shared dist/in656.h dist/in656.pc dist/listing dist/replay dist/scenes
+all: dist/libin656.a dist/$(SONAME) dist/in656.h dist/in656.pc dist/listing dist/replay dist/scenes
 
 dist/listing dist/replay dist/scenes: dist/%: $(SOURCES)
 	@tools/build check $*
@@ -59,7 +56,7 @@ dist/listing dist/replay dist/scenes: dist/%: $(SOURCES)
 	@cp target/bin/$* $@
 
 $(ARCHIVE): $(SOURCES)
-	@tools/build staticlib in656
+	@tools/build archive in656
 	@touch $@
 
 dist/libin656.a: $(ARCHIVE)
@@ -84,24 +81,14 @@ dist/examples/%: examples/%.c examples/serial.c examples/show.c examples/serial.
 	@mkdir -p dist/examples
 	$(CC) -std=c99 -D_XOPEN_SOURCE=700 -Wall -Wextra -pedantic $(CFLAGS) -Idist -o $@ $(filter %.c,$^) dist/libin656.a
 
-ifeq ($(MACHINE),x86_64)
-shared: dist/$(SONAME)
-
 try: dist/examples/try dist/examples/panel dist/examples/bench
 	@dist/examples/try dist/examples/panel dist/examples/bench
-else
-shared:
-	@echo "$(SONAME) $(OTHER)"
-
-try:
-	@echo "make try $(OTHER)"
-endif
 
 install: all
 	@$(INSTALL) -d "$(DESTDIR)$(BINDIR)" "$(DESTDIR)$(INCLUDEDIR)" "$(DESTDIR)$(LIBDIR)/pkgconfig" "$(DESTDIR)$(MANDIR)/man1" "$(DESTDIR)$(MANDIR)/man3"
 	@$(INSTALL) -m 755 dist/listing dist/replay dist/scenes "$(DESTDIR)$(BINDIR)"
 	@$(INSTALL) -m 644 dist/libin656.a "$(DESTDIR)$(LIBDIR)"
-	@if [ -f dist/$(SONAME) ]; then $(INSTALL) -m 755 dist/$(SONAME) "$(DESTDIR)$(LIBDIR)" && ln -sf $(SONAME) "$(DESTDIR)$(LIBDIR)/libin656.so"; fi
+	@$(INSTALL) -m 755 dist/$(SONAME) "$(DESTDIR)$(LIBDIR)" && ln -sf $(SONAME) "$(DESTDIR)$(LIBDIR)/libin656.so"
 	@$(INSTALL) -m 644 include/in656.h "$(DESTDIR)$(INCLUDEDIR)"
 	@$(call PC,$(PREFIX),$(LIBDIR),$(INCLUDEDIR)) > "$(DESTDIR)$(LIBDIR)/pkgconfig/in656.pc"
 	@$(INSTALL) -m 644 man/listing.1 man/replay.1 man/scenes.1 "$(DESTDIR)$(MANDIR)/man1"
@@ -120,7 +107,7 @@ replay: input dist/replay
 scene: input dist/scenes
 	@tools/run dist/scenes < "$$IN"
 
-demo: $(ENDS)
+demo: $(ARCHIVE)
 	$(call need,cargo)
 	@$(HOST) --bin demo '$(LINE)' '$(SEED)' '$(SECONDS)' dist/scenes "$$LOG" '$(PANEL)'
 

@@ -123,12 +123,16 @@ impl Debug for Call<'_> {
     }
 }
 
+/// The type of what `library` gives; where it gives none, of the second version behind the same face.
+#[cfg(archive)]
+pub use crate::library::Library as Linked;
+#[cfg(not(archive))]
+pub use crate::second::Second as Linked;
+
 /// The library, or why it is not there.
 pub fn library() -> Result<&'static dyn Face, &'static str> {
     #[cfg(archive)]
-    return Ok(&crate::library::Library);
-    #[cfg(all(not(archive), target_arch = "x86_64"))]
-    return Err("target/staticlib/libin656.a is not there (make it: rt staticlib in656)");
-    #[cfg(not(target_arch = "x86_64"))]
-    return Err("the library links only into programs for x86-64, and this machine is another");
+    return Ok(&Linked);
+    #[cfg(not(archive))]
+    return Err("its archive in target/archive is not there (make it: tools/archive in656)");
 }

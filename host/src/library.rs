@@ -105,6 +105,7 @@ impl Face for Library {
         }
     }
 
+    #[inline(always)]
     fn call(&self, call: Call, state: &mut [u8], out: &mut [u8], record: &mut [u8]) -> Answer {
         let (s, sl) = (to(state), state.len());
         let (o, ol) = (to(out), out.len());

@@ -3,9 +3,9 @@
 
 mod machine;
 
-use machine::repository;
+use machine::{program, repository};
 use std::fs;
-use std::os::unix::fs::{symlink, PermissionsExt};
+use std::os::unix::fs::symlink;
 use std::path::{Path, PathBuf};
 use std::process::{Command, Output};
 
@@ -15,7 +15,6 @@ const KIT: &str = "kit of the test";
 const RT: &str = r#"#!/bin/sh
 case $1 in
 version) echo "$KIT"; exit ;;
-staticlib) echo "logic=proved $2"; exit ;;
 esac
 mkdir -p target/log
 for crate in one two three; do
@@ -41,10 +40,12 @@ fn made(name: &str) -> PathBuf {
         fs::copy(repository(tool), folder.join(tool)).expect("a copy");
     }
     fs::write(folder.join("tools/kit-version"), format!("{KIT}\n")).expect("a file");
+    program(
+        &folder.join("tools/archive"),
+        "#!/bin/sh\necho \"an archive of $1\"\n",
+    );
     fs::write(folder.join("crates.txt"), "one:\ntwo: one io\nthree: two\n").expect("a file");
-    let rt = folder.join("bin/rt");
-    fs::write(&rt, RT).expect("a file");
-    fs::set_permissions(&rt, fs::Permissions::from_mode(0o755)).expect("it may run");
+    program(&folder.join("bin/rt"), RT);
     folder
 }
 
@@ -92,9 +93,11 @@ fn one_line_a_crate() {
     assert!(output.status.success());
     let log = fs::read_to_string(folder.join("target/build.log")).expect("the log");
     assert!(log.contains("a line of the prover on two"), "{log}");
-    let output = build(&folder, &["staticlib", "three"], KIT, "");
+    let output = build(&folder, &["archive", "three"], KIT, "");
     assert!(text(&output.stderr).contains("proving 3 of 3: three\n"));
     assert!(output.status.success());
+    let log = fs::read_to_string(folder.join("target/build.log")).expect("the log");
+    assert!(log.contains("an archive of three"), "{log}");
 }
 
 /// The prover's lines are shown of the crate that fails, and of no other.
@@ -118,7 +121,7 @@ fn a_kit_that_is_missing_or_another() {
     assert!(status.success(), "ANY_KIT=1 takes another kit");
     stops(
         &build(&folder, &["check"], KIT, ""),
-        "usage: tools/build check|staticlib NAME",
+        "usage: tools/build check|archive NAME",
     );
     stops(
         &build(&folder, &["check", "four"], KIT, ""),

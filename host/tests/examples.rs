@@ -14,15 +14,13 @@ const CPP17: [&str; 3] = ["g++", "-xc++", "-std=c++17"];
 const STRICT: [&str; 4] = ["-Wall", "-Wextra", "-Werror", "-pedantic"];
 const DATA: &str = "B 125 90 120 88";
 
-/// The library, where there is one and this machine can link it.
+/// The library for this machine, where it is built.
 fn library() -> Option<PathBuf> {
-    let path = repository("target/staticlib/libin656.a");
-    if !cfg!(target_arch = "x86_64") {
-        skipped("the library links into x86-64 programs only");
-        return None;
-    }
+    let path = repository("target/archive")
+        .join(std::env::consts::ARCH)
+        .join("libin656.a");
     if !path.is_file() {
-        skipped("the library is not built: rt staticlib in656");
+        skipped("the library is not built: tools/archive in656");
         return None;
     }
     Some(path)

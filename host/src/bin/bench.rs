@@ -5,7 +5,7 @@ use host::arguments::{arguments, stop};
 use host::blocks::{record_block, DESK, GATHERER, RECORD};
 use host::cutting::{telegrams, Cutter, Heard};
 use host::desk::{Desk, ROOM};
-use host::face::{library, Call, Face};
+use host::face::{library, Call, Face, Linked};
 use host::listing::listing;
 use host::making::{any_form, piece};
 use host::random::Random;
@@ -60,7 +60,7 @@ fn row(what: &str, things: usize, mut one: impl FnMut(), mut other: impl FnMut()
 }
 
 /// Reading, writing and the desk's hearing, telegram by telegram.
-fn each_telegram(face: &dyn Face) {
+fn each_telegram(face: &impl Face) {
     let mut random = Random::seeded(1);
     let frames: Vec<Vec<u8>> = (0..TELEGRAMS).map(|_| any_form(&mut random, 1)).collect();
     let reading = |frame: &Vec<u8>| read(1, frame).ok();
@@ -97,7 +97,7 @@ fn each_telegram(face: &dyn Face) {
 }
 
 /// The desk's hearing of the master's telegrams, with numbers 0 and 1 in turn, every third sent again.
-fn hearing(face: &dyn Face, records: &[Record]) {
+fn hearing(face: &impl Face, records: &[Record]) {
     let mut heard = Vec::new();
     let mut number = 0;
     for record in records
@@ -131,7 +131,7 @@ fn hearing(face: &dyn Face, records: &[Record]) {
 }
 
 /// The telegrams of a capture by the library's search.
-fn searched(face: &dyn Face, bytes: &[u8], mut found: impl FnMut(usize, &[u8])) {
+fn searched(face: &impl Face, bytes: &[u8], mut found: impl FnMut(usize, &[u8])) {
     let mut from = 0;
     loop {
         let answer = face.call(Call::Next(bytes, from), &mut [], &mut [], &mut []);
@@ -145,7 +145,7 @@ fn searched(face: &dyn Face, bytes: &[u8], mut found: impl FnMut(usize, &[u8])) 
 }
 
 /// The listing of a capture of line 1 by the library's search and reading.
-fn listed(face: &dyn Face, bytes: &[u8]) -> String {
+fn listed(face: &impl Face, bytes: &[u8]) -> String {
     let mut lines = String::new();
     let (mut block, mut ordinal) = ([0; RECORD], 0);
     searched(face, bytes, |offset, telegram| {
@@ -161,12 +161,14 @@ fn listed(face: &dyn Face, bytes: &[u8]) -> String {
 }
 
 /// Cutting and listing a capture, byte by byte.
-fn each_byte(face: &dyn Face, name: &str, bytes: &[u8]) {
+fn each_byte(face: &impl Face, name: &str, bytes: &[u8]) {
     let mut state = [0; GATHERER];
     let by_library = || {
         face.call(Call::GathererStart, &mut state, &mut [], &mut []);
         for byte in bytes {
-            black_box(face.call(Call::GathererByte(*byte), &mut state, &mut [], &mut []));
+            let answer = face.call(Call::GathererByte(*byte), &mut state, &mut [], &mut []);
+            // what a caller looks at
+            black_box((answer.refusal, answer.outcome, answer.written));
         }
     };
     let by_second = || {
@@ -201,6 +203,12 @@ fn each_byte(face: &dyn Face, name: &str, bytes: &[u8]) {
     );
 }
 
+/// True where the built programs run on the machine itself and not in an emulator.
+fn own_programs() -> bool {
+    let before = Command::new("tools/run").arg("--before").output();
+    before.is_ok_and(|output| output.status.success() && output.stdout.is_empty())
+}
+
 /// The program that lists captures beside `wc -l`, both reading one file of a capture many times over.
 fn beside_wc(name: &str, bytes: &[u8]) -> std::io::Result<()> {
     let path = std::env::temp_dir().join(format!("bench-{}.cap", std::process::id()));
@@ -233,10 +241,11 @@ fn main() {
     if !arguments().is_empty() {
         stop("usage: bench");
     }
-    let face = match library() {
-        Ok(face) => face,
-        Err(why) => return println!("skipped: {why}"),
-    };
+    if let Err(why) = library() {
+        return println!("skipped: {why}");
+    }
+    // by its type, so that each call is the library's function and nothing before it
+    let face = &Linked;
     println!(
         "{:<44} {:>12}  {:>6}  in {TURNS} turns",
         "the library through its C face", "each", "ratio"
@@ -258,11 +267,18 @@ fn main() {
         ("noise full of LF", full),
         ("noise without LF", without),
     ];
+    let timed = own_programs();
     for (name, bytes) in captures {
         each_byte(face, name, &bytes);
+        if !timed {
+            continue;
+        }
         if let Err(trouble) = beside_wc(name, &bytes) {
             stop(&format!("bench: {trouble}"));
         }
+    }
+    if !timed {
+        println!("listing beside wc -l is left out: the programs are for x86-64, and this machine runs them in an emulator");
     }
     println!("ratio: the library's time over the second version's or over that of wc -l, the median, then the lowest and the highest");
 }
