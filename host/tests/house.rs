@@ -105,6 +105,40 @@ fn the_drawing_is_of_crates_txt() {
     assert!(check.map_or(true, |s| s.success()), "run tools/drawing.py");
 }
 
+/// The names of `use` lines that nothing else in a file has. `_++_` stands as `++` between two things; a `pub use` passes
+/// its names on.
+fn unused(text: &str) -> Vec<String> {
+    let code = |line: &str| line.split("--").next().unwrap_or("").to_string();
+    let (uses, rest): (Vec<_>, Vec<_>) = text
+        .lines()
+        .map(code)
+        .partition(|line| line.trim_start().starts_with("use "));
+    let apart = |c: char| c.is_whitespace() || "(){},;.".contains(c);
+    let words: BTreeSet<_> = rest.iter().flat_map(|line| line.split(apart)).collect();
+    let lists = uses.iter().filter_map(|line| line.split_once('{'));
+    lists
+        .flat_map(|(_, list)| list.trim_end().trim_end_matches('}').split(','))
+        .filter_map(|name| name.rsplit(" as ").next().map(str::trim))
+        .filter(|name| !words.contains(name) && !words.contains(name.trim_matches('_')))
+        .map(String::from)
+        .collect()
+}
+
+#[test]
+fn no_name_is_brought_in_for_nothing() {
+    let some = "use a.{_+_, b, c as d}\nuse e.{f}\nd : b + b -- f\n";
+    assert_eq!(unused(some), ["f"]);
+    let mut found = Vec::new();
+    sources(&repository("crates"), &mut found);
+    for path in found
+        .iter()
+        .filter(|p| p.extension().is_some_and(|e| e == "antt"))
+    {
+        let names = unused(&fs::read_to_string(path).expect("it is read"));
+        assert!(names.is_empty(), "{path:?} does not use {names:?}");
+    }
+}
+
 #[test]
 fn lines_and_files_are_short() {
     let mut found = Vec::new();

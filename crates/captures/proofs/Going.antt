@@ -2,19 +2,19 @@
 use mathlib.Core.Path.{_≡_, refl, sym, ap, ap₂, _∙_}
 use mathlib.Core.Bool.{Bool, true, false, cond}
 use mathlib.Core.List.{List, [], _++_, append-nil, append-assoc}
-use Prim.Native.Nat.{ℕ, _+_, _-_, _≤_, _<_}
+use Prim.Native.Nat.{ℕ, _+_, _≤_, _<_}
 use native.Mathlib.Omega.{arith}
-use lib.ListN.{length, take, drop, length-append, length-drop}
-use lib.Seq.{take-at, drop-at, take-add, length-take-le}
+use lib.ListN.{length, take, drop}
+use lib.Seq.{length-take-le}
 use Rattle.characters.specs.Marks.{unfinished}
 use Rattle.reading.specs.Answers.{written}
-use Rattle.text.specs.Putting.{placed}
 use Rattle.listings.specs.Lines.{wrapped, lineRoom}
 use Rattle.pieces.specs.declared.pieces.Listed.{Listed}
 use Rattle.lister.specs.declared.state.Lister.{Lister}
 use Rattle.lister.specs.declared.state.Wants.the-variants.{Read, Again, End}
 use Rattle.pieces.specs.Pieces.{spansOf, linesIn, linesOf, keptFrom}
-use Rattle.tails.specs.Tails.{tailOf, tailPut}
+use Rattle.tails.specs.Tails.{tailPut}
+use Rattle.tails.proofs.Kept.{kept-front, kept-within}
 use Rattle.pieces.specs.Whole.{linesLeft}
 use Rattle.captures.specs.Turn.{Turned, again, behind, carried, carriedOn}
 use Rattle.captures.specs.Runs.{frontOf}
@@ -24,24 +24,6 @@ use Rattle.pieces.proofs.Whole.{in-two}
 -- what is written, and the lines left of the bytes held and any bytes behind them, are the lines of all bytes behind the digit
 abbrev pub Going : ℕ → ℕ → ℕ → ℕ → List ℕ → List ℕ → List ℕ → Type 0
 Going line ordinal base place s body w = (b : List ℕ) → w ++ linesOf line ordinal base (s ++ b) place ≡ linesOf line 1 0 (body ++ b) 0
-
--- the bytes kept stand in front
-module _ (k n : ℕ) (buf : List ℕ) (l : k ≤ n) (h : n ≤ length buf) where
-  tail-length : length (tailOf k n buf) ≡ n - k
-  tail-length = length-take-le (n - k) (drop k buf) (omega (arith, length-drop k buf))
-
-  tail-is : tailOf k n buf ≡ drop k (take n buf)
-  tail-is =
-      let m : k + (n - k) ≡ n = omega arith in
-      sym (ap (drop k) (ap (λ (i : ℕ). take i buf) (sym m) ∙ take-add k (n - k) buf) ∙ drop-at (take k buf) (tailOf k n buf) k (length-take-le k buf (omega arith)))
-
-  pub kept-front : take (n - k) (tailPut k n buf .1) ≡ drop k (take n buf)
-  unfolding tailPut placed
-  kept-front = take-at (tailOf k n buf) _ (n - k) tail-length ∙ tail-is
-
-  pub kept-within : n - k ≤ length (tailPut k n buf .1)
-  unfolding tailPut placed
-  kept-within = omega (arith, tail-length, length-append (tailOf k n buf) (drop (0 + length (tailOf k n buf)) buf))
 
 -- one listing of bytes
 module _ (line base : ℕ) (s : List ℕ) (place ordinal : ℕ) (out : List ℕ) (h : place ≤ length s) (r : Listed) (x : List ℕ)

@@ -1,22 +1,20 @@
 -- Where a run of the listing stands: each turn keeps what is written and held in step with what was read (rule P5). Assumes nothing.
 use mathlib.Core.Path.{_≡_, refl, sym, ap, subst, _∙_}
-use mathlib.Core.Bool.{Bool, true, false, cond}
+use mathlib.Core.Bool.{true}
 use mathlib.Core.List.{List, [], _∷_, _++_, append-nil, append-assoc}
-use Prim.Native.Nat.{ℕ, _+_, _-_, _≤_, _<_}
-use Prim.Native.Char.{code}
+use Prim.Native.Nat.{ℕ, _+_, _≤_, _<_}
 use native.Mathlib.Omega.{arith}
 use lib.Dec.{eqb}
 use lib.ListN.{length, take, length-append}
 use lib.Seq.{take-at, length-take-le}
 use borrow.Author.Tests.{le-leb, eqb-true, eqb-false, ne-eqb}
-use Rattle.laws.proofs.Truths.{clash}
 use Rattle.laws.proofs.Passes.{on-test, from-bounds}
 use Rattle.characters.specs.Marks.{unfinished}
 use Rattle.lines.specs.Lines.{isLine}
 use Rattle.framing.specs.Answers.{good}
 use Rattle.reading.specs.Answers.{written}
-use Rattle.text.specs.Putting.{puts, placed}
-use Rattle.text.proofs.Puts.{with-room}
+use Rattle.text.specs.Putting.{puts}
+use Rattle.text.proofs.Puts.{at-front}
 use Rattle.listings.specs.Lines.{lineRoom}
 use Rattle.lister.specs.declared.state.Lister.{Lister}
 use Rattle.lister.specs.declared.state.Task.{Task}
@@ -31,6 +29,7 @@ use Rattle.captures.specs.Turn.{Turned, unnamed, beside, carriedOn, done
 use Rattle.captures.specs.Runs.{Stand, Given, begun, bufferOf, frontOf, standBehind, MayTurn}
 use Rattle.pieces.proofs.Shifts.{lines-further}
 use Rattle.lister.proofs.Checks.{all-fits, passes}
+use Rattle.lister.proofs.Named.{line-named}
 use Rattle.lister.proofs.Tasks.{none-named, one-named, more-read, all-read}
 use Rattle.captures.proofs.Going.{Going, Went, went}
 
@@ -59,15 +58,6 @@ pub record Made (s : Stand) (g : Given) (t : Turned) : Type 0 where
   pub over : s .lister .wants ≡ Read → g .piece ≡ [] → t .0 .wants ≡ End
   pub settled : t .0 .wants ≡ End → 0 < length (g .piece) → (more : List ℕ) → s .written ++ frontOf (t .1 .0) (t .1 .1 .1) ≡ listingOf ((s .read ++ g .piece) ++ more)
 
--- a line that a digit names is one
-line-named : (digit : ℕ) → eqb (lineNamed digit) 0 ≡ false → isLine (lineNamed digit) ≡ true
-unfolding lineNamed
-line-named digit h = go (isLine (digit - code "0")) refl h
-  where
-    go : (b : Bool) → isLine (digit - code "0") ≡ b → eqb (cond b (digit - code "0") 0) 0 ≡ false → isLine (cond b (digit - code "0") 0) ≡ true
-    go true e q = e
-    go false e q = clash (sym q)
-
 -- a line is not 0, and with a place among the bytes held it fits
 known-line : (line : ℕ) → isLine line ≡ true → (line ≡ 0 → ⊥)
 known-line line h z = let k = from-bounds 1 3 line h in omega arith
@@ -84,11 +74,6 @@ bad-listing digit s h = rw h
 good-listing : (digit : ℕ) (s : List ℕ) → isLine (lineNamed digit) ≡ true → listingOf (digit ∷ s) ≡ linesOf (lineNamed digit) 1 0 s 0
 unfolding listingOf
 good-listing digit s h = rw h
-
--- the text of no line, from the front of an output
-bad-front : (out : List ℕ) → lineRoom ≤ length out → take (puts badLine 0 out .0) (puts badLine 0 out .1) ≡ badLine
-unfolding placed
-bad-front out h = rw (with-room badLine 0 out (omega arith))
 
 module _ (s : Stand) (g : Given) (room : lineRoom ≤ length (g .out)) where
   -- a turn that lists
@@ -109,7 +94,7 @@ module _ (s : Stand) (g : Given) (room : lineRoom ≤ length (g .out)) where
       → (0 < length (g .piece) → (more : List ℕ) → listingOf ((s .read ++ g .piece) ++ more) ≡ badLine) → Made s g (beside buf (unnamed m (g .out)))
   unfolding unnamed
   unnamed-made m buf e k l =
-      let w : s .written ++ take (puts badLine 0 (g .out) .0) (puts badLine 0 (g .out) .1) ≡ badLine = rw e (bad-front (g .out) room) in
+      let w : s .written ++ take (puts badLine 0 (g .out) .0) (puts badLine 0 (g .out) .1) ≡ badLine = rw e (at-front badLine (g .out) (omega (arith, room))) in
       record {
         holds = over refl (w ∙ sym k);
         again = λ q. let z : _≡_ {A = ℕ} 0 1 = cc in let y : ⊥ = omega arith in absurd y;

@@ -1,5 +1,5 @@
 -- A turn of a listing, in the order of its tests. Assumes nothing.
-use mathlib.Core.Path.{_≡_, refl, sym, ap, _∙_}
+use mathlib.Core.Path.{_≡_, sym, ap, _∙_}
 use mathlib.Core.Bool.{true, false}
 use mathlib.Core.List.{List}
 use Prim.Native.Nat.{ℕ, _+_}
@@ -15,7 +15,7 @@ use Rattle.pieces.specs.Pieces.{listPart, keptFrom}
 use Rattle.tails.specs.Tails.{tailPut}
 use Rattle.lister.specs.Line.{badLine}
 use Rattle.lister.specs.Lister.{listFault, taskFor, ended}
-use Rattle.captures.specs.Turn.{Turned, again, behind, unnamed, beside, carried, carriedOn, doneBy, wantedOf, listOf}
+use Rattle.captures.specs.Turn.{Turned, again, behind, unnamed, carried, carriedOn, doneBy, wantedOf, listOf}
 
 pub unnamed-put : (m : Lister) (out t : List ℕ) (l : Lister) (r : ℕ) (x : List ℕ) → t ≡ badLine → (r, x) ≡ puts t 0 out → l ≡ ended m → (l, (written r, x)) ≡ unnamed m out
 unfolding unnamed

@@ -13,7 +13,6 @@ use Rattle.forms.specs.Forms.{byMaster}
 use Rattle.records.specs.Records.{typeOf}
 use Rattle.records.specs.declared.records.Record.{Record}
 use Rattle.values.specs.Values.{permitsRecord}
-use Rattle.framing.specs.Answers.{good}
 use Rattle.reading.specs.Reading.{readingOf}
 use Rattle.writing.specs.Writing.{telegramOf, sentOf}
 use Rattle.roundtrips.proofs.Trips.{written-reads}

@@ -1,12 +1,11 @@
 -- What the table of forms says of a type on a line (rules L1 to L19). Assumes nothing.
 use Prim.Native.Nat.{ℕ, zero, suc, _+_, _-_}
-use Prim.Native.Char.{Char, code}
+use Prim.Native.Char.{code}
 use mathlib.Core.List.{List, [], _∷_, map}
 use mathlib.Core.Bool.{Bool, true, false, cond, not}
 use lib.Dec.{eqb, ltb}
-use lib.ListN.{length, getD, drop}
-use Rattle.laws.specs.Truth.{both, oneOf, pad}
-use Rattle.laws.specs.Text.{codes}
+use lib.ListN.{getD, drop}
+use Rattle.laws.specs.Truth.{both, pad}
 use Rattle.formrows.specs.declared.rows.Form.{Form}
 unfoldable pub use Rattle.formrows.specs.Rows.{forms}
 use Rattle.forms.specs.declared.table.Looked.{Looked}

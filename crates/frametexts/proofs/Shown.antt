@@ -1,6 +1,6 @@
 -- Frames byte by byte. Assumes nothing.
 use mathlib.Core.Path.{_≡_, refl, sym, ap, ap₂, _∙_}
-use mathlib.Core.Bool.{true, false}
+use mathlib.Core.Bool.{false}
 use mathlib.Core.List.{List, [], _∷_}
 use Prim.Native.Char.{code}
 use Prim.Native.Nat.{ℕ, zero, suc, _+_, _-_, _≤_, _<_}
@@ -9,9 +9,9 @@ use native.Mathlib.Numerals.{add-one}
 use lib.Dec.{eqb}
 use lib.ListN.{length, take, drop, getD, drop-of-length-le}
 use lib.Seq.{drop-cons, drop-drop, drop-length, getD-take}
-use borrow.Author.Tests.{eq-eqb, ne-eqb, eqb-true, eqb-false}
+use borrow.Author.Tests.{eq-eqb, ne-eqb, eqb-true}
 use Rattle.laws.specs.Text.{codes}
-use Rattle.laws.specs.Truth.{All, oneOf, either}
+use Rattle.laws.specs.Truth.{All, oneOf}
 use Rattle.laws.proofs.Truths.{clash}
 use Rattle.laws.proofs.Passes.{on-test}
 use Rattle.frametexts.specs.Frames.{endMeant, byteMeant, passed, meantOn, meantBy, shownByte, shownAs, ShownMeans}

@@ -1,2 +1,3 @@
 pub mod Checks
+pub mod Named
 pub mod Tasks

@@ -1,28 +1,26 @@
 -- The two round trips of a log record, and a log without gaps. Assumes nothing.
 use mathlib.Core.Path.{_≡_, refl, sym, ap, ap₂, _∙_}
-use mathlib.Core.Bool.{true, false}
-use mathlib.Core.List.{List, [], _∷_, _++_, append-nil}
-use Prim.Native.Nat.{ℕ, zero, suc, _+_, _-_, _*_, _/_, _%_, _≤_, _<_}
+use mathlib.Core.List.{List, [], _∷_, _++_}
+use Prim.Native.Nat.{ℕ, zero, suc, _+_, _-_, _*_, _/_, _%_, _<_}
 use Prim.Native.Char.{code}
 use native.Mathlib.Omega.{arith}
 use lib.Dec.{eqb}
-use lib.ListN.{length, take, drop, getD, take-append-drop, length-append, length-drop}
+use lib.ListN.{length, take, drop, take-append-drop, length-append, length-drop}
 use lib.Seq.{take-append-seam, drop-append-seam, drop-drop, take-add, length-take-le}
 use borrow.Author.Tests.{eqb-true}
 use Rattle.laws.specs.Truth.{All}
 use Rattle.laws.proofs.Passes.{on-test}
-use Rattle.laws.proofs.Truths.{clash}
 use Rattle.blocks.specs.Numbers.{fourBytes, fourSaid}
 use Rattle.blocks.proofs.Fours.{spelt, four-back}
 use Rattle.logs.specs.declared.marks.Mark.{Mark}
 use Rattle.logs.specs.declared.marks.Mark.the-variants.{Master, Slave, Hit}
 use Rattle.logs.specs.declared.marks.Marked.{Marked}
 use Rattle.logs.specs.declared.marks.Marked.the-variants.{Is, Unknown}
-use Rattle.logs.specs.Marks.{markOf, markBytes, mayHave}
-use Rattle.logs.specs.Records.{LogRecord, logRecord, head, recordBytes, Permitted}
+use Rattle.logs.specs.Marks.{markOf, markBytes}
+use Rattle.logs.specs.Records.{logRecord, recordBytes}
 use Rattle.logs.specs.Reader.{Found, found, end, refused, recordIn}
 use Rattle.logs.specs.Inside.{Whole}
-use Rattle.logs.specs.Whole.{Log, Ending, over, refusal, logOf, sizeOf, sizesOf, joined, Covered, NoGap}
+use Rattle.logs.specs.Whole.{Log, Ending, over, refusal, logOf, sizesOf, joined, Covered, NoGap}
 use Rattle.logs.specs.Again.{WrittenReads, ReadWritten}
 use Rattle.logs.proofs.Inside.{found-whole, whole-found}
 use Rattle.logs.proofs.Steps.{ends}

@@ -1,12 +1,12 @@
 -- What the reader's tests say of the definition. Assumes nothing.
-use mathlib.Core.Path.{_≡_, refl, sym, ap, _∙_}
+use mathlib.Core.Path.{_≡_, ap, _∙_}
 use mathlib.Core.Bool.{true, false}
 use mathlib.Core.List.{List}
 use Prim.Native.Nat.{ℕ, _+_, _-_, _≤_, _<_, _^_}
 use native.Mathlib.Omega.{arith}
-use lib.ListN.{length, take, drop, getD, length-drop, length-take}
+use lib.ListN.{length, take, drop, getD, length-drop}
 use lib.Seq.{take-all}
-use borrow.Author.Tests.{lt-ltb, le-ltb, eq-eqb, ne-eqb}
+use borrow.Author.Tests.{lt-ltb, le-ltb, ne-eqb}
 use Rattle.records.specs.Refusals.{no}
 use Rattle.blocks.specs.Numbers.{fourSaid}
 use Rattle.logs.specs.declared.marks.Mark.{Mark}

@@ -2,25 +2,23 @@
 use mathlib.Core.Path.{_≡_, refl, sym, ap, _∙_}
 use mathlib.Core.Bool.{Bool, true, false, cond}
 use mathlib.Core.List.{List, [], _∷_}
-use Prim.Native.Nat.{ℕ, zero, suc, _+_, _-_, _≤_, _<_}
+use Prim.Native.Nat.{ℕ, zero, suc, _+_, _-_}
 use Prim.Native.Char.{code}
 use native.Mathlib.Omega.{arith}
 use lib.Dec.{ltb, leb, eqb}
 use lib.ListN.{length, getD}
-use borrow.Author.Tests.{lt-ltb, le-ltb, eq-eqb, ne-eqb, ltb-true, ltb-false, leb-true, leb-false, eqb-true, eqb-false}
-use Rattle.laws.specs.Truth.{both, either}
+use borrow.Author.Tests.{lt-ltb, le-ltb, ne-eqb, ltb-true, ltb-false, leb-true, leb-false, eqb-true}
+use Rattle.laws.specs.Truth.{either}
 use Rattle.laws.proofs.Passes.{on-test, both-off}
 use Rattle.characters.specs.Marks.{longest}
-use Rattle.records.specs.Refusals.{No, no}
-use Rattle.framing.specs.Answers.{Fault, good, fails}
+use Rattle.records.specs.Refusals.{no}
+use Rattle.framing.specs.Answers.{Fault}
 use Rattle.logs.specs.declared.marks.Mark.{Mark}
 use Rattle.logs.specs.declared.marks.Mark.the-variants.{Master, Slave, Hit}
-use Rattle.logs.specs.declared.marks.Marked.{Marked}
-use Rattle.logs.specs.declared.marks.Marked.the-variants.{Is, Unknown}
 use Rattle.logs.specs.Marks.{markOf, mayHave}
 use Rattle.logs.specs.Records.{head}
-use Rattle.logs.specs.Reader.{Found, found, end, refused, knownIn, markedIn, recordIn}
-use Rattle.logs.specs.Order.{begins, unmarked, badLength, inOrder, firstOf, refusalIn, FirstThatHolds}
+use Rattle.logs.specs.Reader.{knownIn, markedIn, recordIn}
+use Rattle.logs.specs.Order.{unmarked, badLength, firstOf, refusalIn, FirstThatHolds}
 
 module _ (at : ℕ) (s : List ℕ) where
   -- the tests behind the mark

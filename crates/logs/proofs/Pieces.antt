@@ -1,16 +1,15 @@
 -- A log in two pieces is read as in one. Assumes nothing.
-use mathlib.Core.Path.{_≡_, refl, sym, ap, ap₂, _∙_}
+use mathlib.Core.Path.{_≡_, refl, sym, ap, _∙_}
 use mathlib.Core.Bool.{true, false}
 use mathlib.Core.List.{List, [], _∷_, _++_}
-use Prim.Native.Nat.{ℕ, zero, suc, _+_, _-_, _≤_, _<_}
+use Prim.Native.Nat.{ℕ, zero, suc, _+_, _-_, _<_}
 use native.Mathlib.Omega.{arith}
-use native.Mathlib.Nat.{add-zero}
-use lib.ListN.{length, take, drop, length-drop, length-append}
+use lib.ListN.{length, take, drop, length-drop}
 use lib.Seq.{drop-drop, drop-append-le, take-append-le, length-take-le}
 use Rattle.laws.proofs.Truths.{clash}
 use Rattle.records.specs.Refusals.{No}
 use Rattle.logs.specs.declared.marks.Mark.{Mark}
-use Rattle.logs.specs.Records.{LogRecord, logRecord, head}
+use Rattle.logs.specs.Records.{LogRecord, logRecord}
 use Rattle.logs.specs.Reader.{Found, found, end, refused, recordIn}
 use Rattle.logs.specs.Inside.{waits}
 use Rattle.logs.specs.Whole.{Log, Ending, over, refusal, onward, logOf, sizeOf, sizesOf, waitsAt, leftOf, InTwo, Stands, FirstOf, First}

@@ -1,14 +1,13 @@
 -- A whole log, one record after the other: as many readings as there are bytes are enough. Assumes nothing.
-use mathlib.Core.Path.{_≡_, refl, sym, ap, _∙_}
-use mathlib.Core.List.{List, [], _∷_, _++_}
-use Prim.Native.Nat.{ℕ, zero, suc, _+_, _-_, _≤_, _<_}
+use mathlib.Core.Path.{_≡_, refl, ap}
+use mathlib.Core.List.{List, _∷_}
+use Prim.Native.Nat.{ℕ, zero, suc, _-_, _≤_, _<_}
 use native.Mathlib.Omega.{arith}
 use lib.ListN.{length, take, drop, getD, length-drop}
 use Rattle.logs.specs.declared.marks.Mark.{Mark}
-use Rattle.logs.specs.Records.{LogRecord, logRecord, head}
+use Rattle.logs.specs.Records.{logRecord, head}
 use Rattle.logs.specs.Reader.{Found, found, end, refused, recordIn}
-use Rattle.logs.specs.Inside.{Whole}
-use Rattle.logs.specs.Whole.{Log, over, onward, logOn, logOf}
+use Rattle.logs.specs.Whole.{Log, onward, logOn, logOf}
 use Rattle.logs.proofs.Inside.{found-whole}
 
 -- a record that is found ends behind its head and within what is left

@@ -1,17 +1,16 @@
 -- What the writer's tests say of the definition. Assumes nothing.
 use mathlib.Core.Path.{_≡_, refl, ap, _∙_}
 use mathlib.Core.Bool.{true, false}
-use mathlib.Core.List.{List, [], _∷_, _++_}
-use Prim.Native.Nat.{ℕ, _+_, _-_, _≤_, _<_}
+use mathlib.Core.List.{List}
+use Prim.Native.Nat.{ℕ, _+_, _≤_, _<_}
 use native.Mathlib.Omega.{arith}
 use native.Mathlib.Nat.{zero-add}
-use lib.ListN.{length, drop, length-append}
+use lib.ListN.{length, length-append}
 use borrow.Author.Tests.{le-leb, lt-leb, leb-true, eqb-true}
 use Rattle.records.specs.Refusals.{no}
 use Rattle.reading.specs.Answers.{Outcome, written, refused}
 use Rattle.text.specs.Putting.{puts, placed}
 use Rattle.text.proofs.Puts.{with-room}
-use Rattle.blocks.specs.Numbers.{fourBytes}
 use Rattle.blocks.proofs.Fours.{four-length}
 use Rattle.logs.specs.declared.marks.Mark.{Mark}
 use Rattle.logs.specs.declared.marks.Mark.the-variants.{Master, Slave, Hit}

@@ -7,7 +7,6 @@ use lib.Dec.{eqb}
 use lib.ListN.{length, take, drop}
 use Rattle.laws.specs.Truth.{All}
 use Rattle.characters.specs.Marks.{longest}
-use Rattle.records.specs.Refusals.{No, no}
 use Rattle.logs.specs.Records.{LogRecord, logRecord, head, recordBytes}
 use Rattle.logs.specs.Reader.{Found, found, end, refused, recordIn}
 
@@ -41,11 +40,6 @@ sizeOf r = head + length (r .bytes)
 abbrev pub sizesOf : List LogRecord → ℕ
 sizesOf [] = 0
 sizesOf (r ∷ rs) = sizeOf r + sizesOf rs
-
--- the refusal of a log has the offset of its record: behind the records before it
-abbrev pub refusalOf : Log → List No
-refusalOf (rs, over) = []
-refusalOf (rs, refusal number) = no number (sizesOf rs) ∷ []
 
 abbrev pub joined : List LogRecord → List ℕ
 joined [] = []

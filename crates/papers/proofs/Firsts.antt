@@ -8,9 +8,8 @@ use native.Mathlib.Omega.{arith}
 use lib.Dec.{eqb}
 use lib.ListN.{length, getD, take, drop, length-drop}
 use lib.Seq.{length-take-le, drop-length, getD-take, getD-drop, take-take, drop-drop}
-use borrow.Author.Tests.{eqb-true, eqb-false, eq-eqb}
+use borrow.Author.Tests.{eqb-true, eqb-false}
 use Rattle.records.specs.Refusals.{No, no}
-use Rattle.records.specs.declared.records.Record.{Record}
 use Rattle.laws.proofs.Truths.{clash}
 use Rattle.laws.proofs.Passes.{on-test, order, every-all}
 use Rattle.characters.specs.Characters.{inSet}
@@ -19,10 +18,9 @@ use Rattle.forms.specs.Forms.{forms, Slot, slotsIn, countOf, slotsOf, widthIn, 
 use Rattle.formrows.specs.declared.rows.Form.{Form}
 use Rattle.forms.proofs.Found.{found-row}
 use Rattle.forms.proofs.Slots.{slots-end, width-here}
-use Rattle.values.specs.Values.{permitted}
 use Rattle.framing.specs.declared.answers.Spot.{Spot}
 use Rattle.framing.specs.declared.answers.Spot.the-variants.{Nowhere, At}
-use Rattle.reading.specs.Answers.{Answer, accepted, refused}
+use Rattle.reading.specs.Answers.{Answer, refused}
 use Rattle.framing.specs.Frame.{fieldOf, frameChecks}
 use Rattle.reading.specs.Field.{rowIn, outside, wrongLetter, badValue, misshapen, fieldChecks}
 use Rattle.reading.specs.Reading.{checks, readingOf}

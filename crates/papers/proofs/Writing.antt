@@ -11,7 +11,6 @@ use borrow.Author.Tests.{leb-true}
 use Rattle.laws.specs.Truth.{both}
 use Rattle.laws.specs.Numerals.{numeralOn, leftOf}
 use Rattle.laws.proofs.Truths.{both-left}
-use Rattle.laws.proofs.Passes.{on-test}
 use Rattle.characters.specs.Characters.{inSet}
 use Rattle.lines.specs.Lines.{isLine, lineOf}
 use Rattle.forms.specs.Forms.{forms, onLine, lookIn, formOf, typeRow, slotsIn, countOf, slotsOf, widthIn, widthOf}

@@ -1,12 +1,11 @@
 -- A capture read in any pieces is listed as in one go (rule P5). Assumes nothing.
 use mathlib.Core.Path.{_≡_, refl, sym, ap, _∙_}
 use mathlib.Core.List.{List, [], _∷_, _++_, append-nil, append-assoc}
-use Prim.Native.Nat.{ℕ, _+_, _≤_}
+use Prim.Native.Nat.{ℕ, _+_}
 use native.Mathlib.Omega.{arith}
 use lib.ListN.{length, drop, length-append, length-drop}
-use Rattle.characters.specs.Marks.{unfinished}
 use Rattle.listings.specs.Lines.{wrapped}
-use Rattle.pieces.specs.Pieces.{spansOn, spansOf, linesIn, linesOf, keptFrom}
+use Rattle.pieces.specs.Pieces.{spansOn, spansOf, linesIn, linesOf}
 use Rattle.pieces.specs.Whole.{nextOrdinal, keptOf, runOf, joined, FewKept, InPieces}
 use Rattle.pieces.proofs.Whole.{in-two}
 

@@ -3,7 +3,7 @@ use Prim.Native.Nat.{ℕ, zero, suc, _+_, _-_, max}
 use mathlib.Core.Bool.{Bool, true, false, cond}
 use mathlib.Core.List.{List, [], _∷_, _++_}
 use lib.Dec.{leb}
-use lib.ListN.{length, take, drop}
+use lib.ListN.{length}
 use Rattle.characters.specs.Marks.{unfinished}
 use Rattle.reading.specs.Answers.{Outcome, written, refused}
 use Rattle.reading.specs.Reading.{readingOf}

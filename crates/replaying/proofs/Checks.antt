@@ -1,15 +1,13 @@
 -- What a turn's checks say. Assumes nothing.
-use mathlib.Core.Path.{_≡_, refl, sym, ap, _∙_}
+use mathlib.Core.Path.{_≡_, sym, ap}
 use mathlib.Core.Bool.{Bool, true, false}
-use Prim.Native.Nat.{ℕ, _+_, _-_, _≤_, _<_}
+use Prim.Native.Nat.{ℕ, _+_, _-_, _≤_}
 use native.Mathlib.Omega.{arith}
 use lib.Dec.{ltb}
-use borrow.Author.Tests.{lt-ltb, le-ltb, ltb-false}
-use Rattle.laws.specs.Truth.{either}
+use borrow.Author.Tests.{le-ltb, ltb-false}
 use Rattle.laws.proofs.Passes.{on-test}
 use Rattle.laws.proofs.Truths.{clash}
 use Rattle.characters.specs.Marks.{longest}
-use Rattle.records.specs.Refusals.{no}
 use Rattle.framing.specs.Answers.{Fault, good, fails}
 use Rattle.logs.specs.Records.{head}
 use Rattle.replays.specs.Texts.{rowRoom}

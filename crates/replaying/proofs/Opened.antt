@@ -1,42 +1,22 @@
 -- A replay of a whole input: its first byte, and the run behind it. Assumes nothing.
-use mathlib.Core.Path.{_≡_, refl, sym, ap, _∙_}
-use mathlib.Core.Bool.{Bool, true, false, cond}
+use mathlib.Core.Path.{_≡_, refl, sym, _∙_}
+use mathlib.Core.Bool.{true, false}
 use mathlib.Core.List.{List, [], _∷_, _++_}
-use Prim.Native.Nat.{ℕ, _-_, _≤_}
-use Prim.Native.Char.{code}
+use Prim.Native.Nat.{ℕ, _≤_}
 use native.Mathlib.Omega.{arith}
 use lib.Dec.{eqb}
-use lib.ListN.{length, take}
+use lib.ListN.{length}
 use borrow.Author.Tests.{eqb-true}
 use Rattle.laws.proofs.Passes.{on-test}
-use Rattle.laws.proofs.Truths.{clash}
-use Rattle.lines.specs.Lines.{isLine}
-use Rattle.reading.specs.Answers.{Outcome}
-use Rattle.text.specs.Putting.{puts, placed}
-use Rattle.text.proofs.Puts.{with-room}
+use Rattle.text.proofs.Puts.{at-front}
 use Rattle.lister.specs.Line.{badLine, lineNamed}
+use Rattle.lister.proofs.Named.{line-named}
 use Rattle.lister.specs.declared.state.Wants.the-variants.{End}
 use Rattle.replays.specs.Texts.{rowRoom}
-use Rattle.replaying.specs.declared.state.Replayer.{Replayer}
-use Rattle.replaying.specs.State.{begunOn}
 use Rattle.replaying.specs.Turn.{openedOn}
 use Rattle.replaying.specs.Replay.{replayOn, replayOf}
 use Rattle.replaying.specs.Runs.{Stand, Given, begun, openedAt, standAfter, MayRun, WholeInput}
 use Rattle.replaying.proofs.EachTurn.{whole-replay}
-
--- a line that a digit names is one
-line-named : (digit : ℕ) → eqb (lineNamed digit) 0 ≡ false → isLine (lineNamed digit) ≡ true
-unfolding lineNamed
-line-named digit h = go (isLine (digit - code "0")) refl h
-  where
-    go : (b : Bool) → isLine (digit - code "0") ≡ b → eqb (cond b (digit - code "0") 0) 0 ≡ false → isLine (cond b (digit - code "0") 0) ≡ true
-    go true e q = e
-    go false e q = clash (sym q)
-
--- the text of no line, from the front of an output
-bad-front : (out : List ℕ) → rowRoom ≤ length out → take (puts badLine 0 out .0) (puts badLine 0 out .1) ≡ badLine
-unfolding placed
-bad-front out h = rw (with-room badLine 0 out (omega arith))
 
 -- a run that is over goes no further
 no-more : (s : Stand) (gs : List Given) → s .replayer .wants ≡ End → MayRun s gs → (standAfter s gs .written ≡ s .written) × (standAfter s gs .read ≡ s .read)
@@ -53,7 +33,7 @@ module _ (first out buf : List ℕ) (gs : List Given) (digit : ℕ) (room : rowR
   unnamed z bad may =
       let e : stand .replayer .wants ≡ End = rw z in
       let n = no-more stand gs e may in
-      let w : stand .written ≡ badLine = rw z (bad-front out room) in
+      let w : stand .written ≡ badLine = rw z (at-front badLine out (omega (arith, room))) in
       n .0 ∙ (w ∙ sym (bad (standAfter stand gs .read) (n .1)))
 
   named : eqb (lineNamed digit) 0 ≡ false → ((read : List ℕ) → replayOf (first ++ read) ≡ replayOn (lineNamed digit) read) → MayRun stand gs → standAfter stand gs .replayer .wants ≡ End

@@ -1,34 +1,30 @@
 -- Where a run of a replay stands: each turn keeps what is written and held in step with what was read (rule Q14). Assumes nothing.
-use mathlib.Core.Path.{_≡_, refl, sym, ap, subst, _∙_}
-use mathlib.Core.Bool.{Bool, true, false, cond}
+use mathlib.Core.Path.{_≡_, refl, sym, ap, _∙_}
+use mathlib.Core.Bool.{true}
 use mathlib.Core.List.{List, [], _∷_, _++_, append-nil, append-assoc}
-use Prim.Native.Nat.{ℕ, zero, suc, _+_, _-_, _≤_, _<_}
+use Prim.Native.Nat.{ℕ, zero, suc, _+_, _≤_, _<_}
 use native.Mathlib.Omega.{arith}
 use native.Mathlib.Nat.{zero-add}
 use lib.Dec.{eqb}
-use lib.ListN.{length, take, drop, length-append, length-drop}
-use lib.Seq.{take-at, drop-at, take-add, length-take-le}
+use lib.ListN.{length, take, drop, length-append}
+use lib.Seq.{take-at, length-take-le}
 use borrow.Author.Tests.{eqb-true, eqb-false}
 use Rattle.laws.proofs.Passes.{on-test}
-use Rattle.laws.proofs.Truths.{clash}
-use Rattle.characters.specs.Marks.{longest}
 use Rattle.framing.specs.Answers.{good}
 use Rattle.reading.specs.Answers.{written}
 use Rattle.text.specs.Putting.{placed}
 use Rattle.listings.specs.Lines.{wrapped}
 use Rattle.listings.proofs.Puts.{put-take}
-use Rattle.tails.specs.Tails.{tailOf, tailPut}
+use Rattle.tails.specs.Tails.{tailPut}
+use Rattle.tails.proofs.Kept.{kept-front, kept-within}
 use Rattle.lister.specs.declared.state.Wants.{Wants}
 use Rattle.lister.specs.declared.state.Wants.the-variants.{Read, Again, End}
-use Rattle.desk.specs.State.{startOf}
-use Rattle.logs.specs.Records.{LogRecord, head}
 use Rattle.logs.specs.Whole.{Log, logOf, waitsAt}
 use Rattle.logs.proofs.Left.{what-is-left, empty-log}
 use Rattle.replays.specs.declared.part.Stop.{Stop}
 use Rattle.replays.specs.declared.part.Stop.the-variants.{Goes, Full, Waits, Over}
 use Rattle.replays.specs.declared.part.Replayed.{Replayed}
 use Rattle.replays.specs.Texts.{rowRoom, cut, refusedText, textOn, textOf}
-use Rattle.replays.specs.Part.{partOf}
 use Rattle.replays.specs.Pieces.{Parted}
 use Rattle.replays.proofs.Parts.{in-parts}
 use Rattle.replaying.specs.declared.state.Replayer.{Replayer}
@@ -71,24 +67,6 @@ abbrev tagged : Wants → ℕ
 tagged Read = 0
 tagged Again = 1
 tagged End = 2
-
--- the bytes kept stand in front
-module _ (k n : ℕ) (buf : List ℕ) (l : k ≤ n) (h : n ≤ length buf) where
-  tail-length : length (tailOf k n buf) ≡ n - k
-  tail-length = length-take-le (n - k) (drop k buf) (omega (arith, length-drop k buf))
-
-  tail-is : tailOf k n buf ≡ drop k (take n buf)
-  tail-is =
-      let m : k + (n - k) ≡ n = omega arith in
-      sym (ap (drop k) (ap (λ (i : ℕ). take i buf) (sym m) ∙ take-add k (n - k) buf) ∙ drop-at (take k buf) (tailOf k n buf) k (length-take-le k buf (omega arith)))
-
-  kept-front : take (n - k) (tailPut k n buf .1) ≡ drop k (take n buf)
-  unfolding tailPut placed
-  kept-front = take-at (tailOf k n buf) _ (n - k) tail-length ∙ tail-is
-
-  kept-within : n - k ≤ length (tailPut k n buf .1)
-  unfolding tailPut placed
-  kept-within = omega (arith, tail-length, length-append (tailOf k n buf) (drop (0 + length (tailOf k n buf)) buf))
 
 twice : (n : ℕ) → wrapped (wrapped n) ≡ wrapped n
 twice n = omega arith

@@ -1,10 +1,10 @@
 -- A turn of a replay, in the order of its tests. Assumes nothing.
-use mathlib.Core.Path.{_≡_, refl, sym, ap, _∙_}
+use mathlib.Core.Path.{_≡_, sym, ap, _∙_}
 use mathlib.Core.List.{List}
 use Prim.Native.Nat.{ℕ, _+_, _-_, _≤_}
 use native.Mathlib.Omega.{arith}
 use native.Mathlib.Nat.{zero-add}
-use lib.ListN.{length, take, drop, getD, length-take}
+use lib.ListN.{length, take, getD, length-take}
 use borrow.Rule.Slice.PartMut.{midOf, putMid}
 use borrow.Author.Tests.{eq-eqb, ne-eqb}
 use Rattle.records.specs.Refusals.{No}
@@ -15,14 +15,14 @@ use Rattle.listings.specs.Lines.{wrapped}
 use Rattle.tails.specs.Tails.{tailPut}
 use Rattle.lister.specs.Line.{badLine, lineNamed}
 use Rattle.lister.specs.declared.state.Wants.{Wants}
-use Rattle.lister.specs.declared.state.Wants.the-variants.{Read, Again, End}
+use Rattle.lister.specs.declared.state.Wants.the-variants.{Read, End}
 use Rattle.replays.specs.declared.part.Replayed.{Replayed}
 use Rattle.replays.specs.Texts.{rowRoom, cut, refusedText}
 use Rattle.replays.specs.Part.{partOf}
 use Rattle.replays.proofs.Cut.{puts-cut, at-part, part-length}
 use Rattle.replaying.specs.declared.state.Replayer.{Replayer}
 use Rattle.replaying.specs.State.{begunOn, turnFault, wantsFor}
-use Rattle.replaying.specs.Turn.{Turned, ended, openedOn, openedOf, lastOf, beside, behind, carried, carriedOn, wantedOf, turnOf}
+use Rattle.replaying.specs.Turn.{Turned, ended, openedOn, openedOf, lastOf, beside, carried, carriedOn, wantedOf, turnOf}
 
 module _ (m : Replayer) (out : List ℕ) where
   pub none-held : (l : Replayer) → m .held ≡ 0 → l ≡ ended m → (l, (written 0, out)) ≡ lastOf m out

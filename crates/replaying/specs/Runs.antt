@@ -6,7 +6,7 @@ use lib.ListN.{length, take}
 use Rattle.characters.specs.Marks.{longest}
 use Rattle.framing.specs.Answers.{good}
 use Rattle.reading.specs.Answers.{Outcome, written, refused}
-use Rattle.lister.specs.declared.state.Wants.the-variants.{Read, Again, End}
+use Rattle.lister.specs.declared.state.Wants.the-variants.{Read, End}
 use Rattle.logs.specs.Records.{head}
 use Rattle.replays.specs.Texts.{rowRoom}
 use Rattle.replaying.specs.declared.state.Replayer.{Replayer}

@@ -1,14 +1,12 @@
 -- A part of a log: the rows put, and those left, are the rows of all. Assumes nothing.
 use mathlib.Core.Path.{_≡_, refl, sym, ap, _∙_}
 use mathlib.Core.Bool.{Bool, true, false, cond}
-use mathlib.Core.List.{List, [], _∷_, _++_, append-assoc, append-nil}
-use Prim.Native.Nat.{ℕ, zero, suc, _+_, _-_, _≤_, _<_}
+use mathlib.Core.List.{List, [], _∷_, _++_, append-assoc}
+use Prim.Native.Nat.{ℕ, _+_, _-_, _≤_}
 use native.Mathlib.Omega.{arith}
-use native.Mathlib.Nat.{add-zero}
 use lib.Dec.{ltb, eqb}
 use lib.ListN.{length, take, drop, length-drop}
-use lib.Seq.{drop-drop, length-take-le}
-use Rattle.laws.proofs.Truths.{clash}
+use lib.Seq.{drop-drop}
 use Rattle.text.specs.Putting.{placed}
 use Rattle.listings.specs.Lines.{wrapped}
 use Rattle.listings.proofs.Puts.{put-length, put-take}
@@ -16,13 +14,12 @@ use Rattle.desk.specs.declared.state.Desk.{Desk}
 use Rattle.logs.specs.Records.{LogRecord}
 use Rattle.logs.specs.Whole.{Log, Ending, over, refusal, sizeOf, logOf, waitsAt}
 use Rattle.logs.proofs.Pieces.{stands, first-of}
-use Rattle.replayrows.specs.Rows.{Row}
 use Rattle.replays.specs.declared.part.Stop.{Stop}
 use Rattle.replays.specs.declared.part.Stop.the-variants.{Goes, Full, Waits, Over}
 use Rattle.replays.specs.declared.part.Replayed.{Replayed}
 use Rattle.replays.specs.Texts.{rowRoom, cut, rowAt, refusedText, textOn, textOf}
 use Rattle.replays.specs.Part.{stopped, endIn, partIn, partOf}
-use Rattle.replays.specs.Pieces.{Parted, InParts}
+use Rattle.replays.specs.Pieces.{InParts}
 
 -- one offset further on
 further-on : (base place n : ℕ) → wrapped (wrapped (base + place) + n) ≡ wrapped (base + (place + n))

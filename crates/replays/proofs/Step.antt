@@ -1,25 +1,25 @@
 -- One record of a slice: its row is put, or bytes that may follow are waited for, or the replay is over. Assumes nothing.
-use mathlib.Core.Path.{_≡_, refl, sym, ap, ap₂, _∙_}
+use mathlib.Core.Path.{_≡_, refl, sym, ap, _∙_}
 use mathlib.Core.Bool.{Bool, true, false, cond}
 use mathlib.Core.List.{List, [], _∷_, _++_}
 use Prim.Native.Nat.{ℕ, _+_, _-_, _≤_, _<_}
 use native.Mathlib.Omega.{arith}
 use native.Mathlib.Nat.{zero-add}
 use lib.Dec.{ltb, eqb}
-use lib.ListN.{length, take, drop, take-append-drop, length-take, length-drop, length-append}
-use lib.Seq.{drop-drop, length-take-le}
+use lib.ListN.{length, take, drop, take-append-drop, length-take, length-drop}
+use lib.Seq.{drop-drop}
 use borrow.Rule.Slice.PartMut.{midOf, putMid}
 use borrow.Author.Tests.{le-ltb, lt-ltb}
 use Rattle.laws.proofs.Truths.{clash}
 use Rattle.text.specs.Putting.{puts, placed}
-use Rattle.records.specs.Refusals.{No, no}
+use Rattle.records.specs.Refusals.{No}
 use Rattle.listings.specs.Lines.{wrapped}
 use Rattle.desk.specs.declared.state.Desk.{Desk}
 use Rattle.logs.specs.declared.marks.Mark.{Mark}
 use Rattle.logs.specs.Records.{LogRecord, logRecord}
 use Rattle.logs.specs.Reader.{Found, found, end, refused, recordIn, recordAt}
 use Rattle.logs.specs.Inside.{further}
-use Rattle.logs.specs.Whole.{Ending, over, refusal, Log, sizeOf, logOf}
+use Rattle.logs.specs.Whole.{over, refusal, Log, logOf}
 use Rattle.logs.proofs.Further.{record-further}
 use Rattle.logs.proofs.Steps.{ends}
 use Rattle.logs.proofs.Pieces.{on-found, on-end, on-refused, size-is}
@@ -29,7 +29,7 @@ use Rattle.replays.specs.declared.part.Stop.the-variants.{Goes, Full, Wa
 use Rattle.replays.specs.declared.part.Put.{Put}
 use Rattle.replays.specs.declared.part.Replayed.{Replayed}
 use Rattle.replays.specs.Texts.{rowRoom, cut, rowAt, refusedText}
-use Rattle.replays.specs.Part.{goesOn, put, textPut, rowPut, refusedPut, foundPut, nextPut, stopped, endIn, partIn, logFrom}
+use Rattle.replays.specs.Part.{goesOn, put, textPut, rowPut, refusedPut, foundPut, nextPut, stopped, partIn, logFrom}
 use Rattle.replays.proofs.Cut.{puts-cut, at-part, part-length}
 
 -- the rest of the replay from a log on

@@ -5,7 +5,6 @@ use Prim.Native.Nat.{ℕ, _+_, _-_}
 use lib.Dec.{ltb, eqb}
 use lib.ListN.{length, take, drop}
 use Rattle.text.specs.Putting.{puts, placed}
-use Rattle.records.specs.Refusals.{No}
 use Rattle.listings.specs.Lines.{wrapped}
 use Rattle.desk.specs.declared.state.Desk.{Desk}
 use Rattle.logs.specs.Records.{LogRecord}

@@ -1,12 +1,12 @@
 -- A part of a log, replayed into an output, and what is left of it (rule Q14). Assumes nothing.
 use mathlib.Core.Path.{_≡_}
-use mathlib.Core.Bool.{true, false}
+use mathlib.Core.Bool.{true}
 use mathlib.Core.List.{List, [], _++_}
 use Prim.Native.Nat.{ℕ, _+_, _≤_}
 use lib.ListN.{length, take, drop}
 use Rattle.listings.specs.Lines.{wrapped}
 use Rattle.desk.specs.declared.state.Desk.{Desk}
-use Rattle.logs.specs.Whole.{Log, logOf, waitsAt}
+use Rattle.logs.specs.Whole.{logOf, waitsAt}
 use Rattle.replays.specs.declared.part.Stop.the-variants.{Waits, Over}
 use Rattle.replays.specs.declared.part.Replayed.{Replayed}
 use Rattle.replays.specs.Texts.{textOf}

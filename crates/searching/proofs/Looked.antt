@@ -5,7 +5,6 @@ use Prim.Native.Nat.{ℕ, _+_, _-_, _≤_, _<_}
 use native.Mathlib.Omega.{arith}
 use lib.ListN.{length, getD}
 use Rattle.laws.proofs.Passes.{order}
-use Rattle.characters.specs.Marks.{lf, cr}
 use Rattle.searching.specs.declared.search.Span.the-variants.{Found, Nothing}
 use Rattle.searching.specs.Search.{spanOf}
 use Rattle.searching.specs.Looks.{NextCr, NearLf}

@@ -8,7 +8,7 @@ use native.Mathlib.Omega.{arith}
 use lib.ListN.{length, getD}
 use borrow.Author.Tests.{lt-ltb, le-ltb}
 use Rattle.laws.proofs.Passes.{order}
-use Rattle.laws.specs.Numerals.{leftOf, numberOn, numeralOn}
+use Rattle.laws.specs.Numerals.{leftOf, numeralOn}
 use Rattle.laws.proofs.Digits.{numeral-length, number-numeral}
 use Rattle.text.specs.Numbers.{countOn, digitCount, decimalText, numberSaid, DecimalSays, NoLeadingZero, AtMostTwenty, NumberRead}
 

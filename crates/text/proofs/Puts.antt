@@ -1,16 +1,14 @@
 -- Texts put into an output one behind the other. Assumes nothing.
-use mathlib.Core.Path.{_≡_, refl, sym, ap, ap₂, _∙_}
-use mathlib.Core.Bool.{false}
+use mathlib.Core.Path.{_≡_, refl, sym, ap, _∙_}
 use mathlib.Core.List.{List, [], _∷_, _++_, append-assoc, append-nil}
-use Prim.Native.Nat.{ℕ, suc, _+_, _-_, _≤_, _<_}
+use Prim.Native.Nat.{ℕ, suc, _+_, _≤_, _<_}
 use native.Mathlib.Omega.{arith}
 use native.Mathlib.Numerals.{add-one}
-use native.Mathlib.Nat.{add-zero, add-suc, suc-add}
-use lib.Dec.{ltb}
+use native.Mathlib.Nat.{add-zero, zero-add, add-suc, suc-add}
 use lib.ListN.{length, take, drop, set, getD, length-set, length-take, take-append-drop, drop-of-length-le}
-use lib.Seq.{take-all, drop-cons, drop-drop, take-suc-set, drop-set-lt}
+use lib.Seq.{take-all, take-at, drop-cons, drop-drop, take-suc-set, drop-set-lt}
 use borrow.Author.Tests.{lt-ltb, le-ltb}
-use Rattle.laws.proofs.Passes.{on-test, order}
+use Rattle.laws.proofs.Passes.{order}
 use Rattle.text.specs.Putting.{puts, placed}
 
 -- nothing is put into an output that is full
@@ -57,6 +55,11 @@ with-room (b ∷ t) at out h =
     rw (lt-ltb at (length out) l)
     (with-room t (suc at) (set out at b) r
     ∙ rw (suc-add at (length t), ← (add-suc at (length t)), take-suc-set out at b l, drop-set-lt (at + suc (length t)) out at b (omega arith), append-assoc))
+
+-- a text that was put in front of an output stands there
+pub at-front : (t out : List ℕ) → length t ≤ length out → take (puts t 0 out .0) (puts t 0 out .1) ≡ t
+unfolding placed
+at-front t out h = rw (with-room t 0 out (omega arith)) (take-at t (drop (0 + length t) out) (0 + length t) (sym (zero-add (length t))))
 
 -- a text that was copied into its stretch of an output
 pub in-stretch : (t : List ℕ) (at k : ℕ) (out new : List ℕ) → at + length t ≤ length out → k ≡ length t

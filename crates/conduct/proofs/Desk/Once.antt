@@ -5,7 +5,7 @@ use mathlib.Core.List.{List, [], _∷_, _++_, map, append-nil, append-assoc, map
 use Prim.Native.Nat.{ℕ, _<_}
 use native.Mathlib.Omega.{arith}
 use lib.Dec.{eqb}
-use lib.ListN.{length, getD, take, drop}
+use lib.ListN.{length, getD, drop}
 use lib.Seq.{take-append-seam}
 use borrow.Author.Tests.{eqb-true, eqb-false}
 use Rattle.laws.proofs.Passes.{on-test}
@@ -22,7 +22,7 @@ use Rattle.replying.specs.declared.replying.Wanted.{Wanted}
 use Rattle.replying.specs.declared.replying.Wanted.the-variants.{None, Is}
 use Rattle.records.specs.Refusals.{No}
 use Rattle.desk.specs.Answers.{Done, done}
-use Rattle.deskhearing.specs.Answers.{fault, repeat, handled}
+use Rattle.deskhearing.specs.Answers.{handled}
 use Rattle.desk.specs.State.{startOf}
 use Rattle.desk.specs.Panel.{losesLine, notedOf, withQueued}
 use Rattle.deskqueue.specs.Queue.{oldest, replyTo}

@@ -22,7 +22,7 @@ use Rattle.deciding.specs.Deciding as r
 use Rattle.deciding.proofs.Rulings.{by-number, good-repeat, when-accepted, when-refused, bad-contents}
 use Rattle.deskhearing.specs.Answers.{repeat}
 use Rattle.desk.specs.Panel.{losesLine, notedOf}
-use Rattle.deskhearing.specs.Hearing.{Hearing, faultedOf, repeatedOf, handledOf, appliedOf, ruling, hearOf}
+use Rattle.deskhearing.specs.Hearing.{Hearing, faultedOf, repeatedOf, handledOf, appliedOf, ruling}
 use Rattle.desk.specs.declared.state.Desk.{Desk}
 use Rattle.deskhearing.proofs.Sendings.{hear-room, hear-applied}
 use Rattle.conduct.specs.Desk.Calls.{noted}

@@ -25,9 +25,9 @@ use Rattle.replying.specs.Fitting.{mayReply, keyFits}
 use Rattle.desk.specs.Answers.{Done, done, lost}
 use Rattle.deskhearing.specs.Answers.{Told, silent}
 use Rattle.desk.specs.State.{inRanges}
-use Rattle.desk.specs.Panel.{losesLine, notedOf, withQueued, withRequested, withKey, recordFault, faultless, keyFault, tickOf, queueOf, setOf, keyOf}
+use Rattle.desk.specs.Panel.{losesLine, withQueued, withRequested, withKey, recordFault, faultless, keyFault, tickOf, queueOf, setOf, keyOf}
 use Rattle.deskqueue.specs.Queue.{replyTo}
-use Rattle.deskhearing.specs.Hearing.{Hearing, faultedOf, repeatedOf, handledOf, appliedOf, ruling, heardOf, hearOf}
+use Rattle.deskhearing.specs.Hearing.{faultedOf, repeatedOf, handledOf, appliedOf, ruling, heardOf, hearOf}
 use Rattle.desk.specs.declared.state.Desk.{Desk}
 use Rattle.conduct.specs.Desk.Calls.{Call, ticks, queues, sets, turns, hears, did, heard, Result, saying, hearing, after, noted}
 

@@ -2,11 +2,11 @@
 use mathlib.Core.Path.{_≡_, refl, ap, _∙_}
 use mathlib.Core.Bool.{Bool, true, false}
 use mathlib.Core.List.{List, [], _∷_, _++_}
-use Prim.Native.Nat.{ℕ, _≤_}
+use Prim.Native.Nat.{ℕ}
 use Prim.Native.Char.{code}
 use native.Mathlib.Omega.{arith}
 use lib.Dec.{eqb}
-use lib.ListN.{length, getD, take, drop, replicate}
+use lib.ListN.{length, take, drop, replicate}
 use lib.Seq.{take-append-seam}
 use borrow.Author.Tests.{eqb-true, eqb-false}
 use Rattle.laws.specs.Truth.{every}
@@ -20,10 +20,10 @@ use Rattle.records.specs.declared.records.Record.{Record}
 use Rattle.values.specs.Values.{permitsRecord}
 use Rattle.writing.specs.Writing.{telegramOf, sentOf}
 use Rattle.roundtrips.proofs.Trips.{telegram-length, length-bounds}
-use Rattle.characters.specs.Marks.{shortest, longest}
+use Rattle.characters.specs.Marks.{longest}
 use Rattle.deciding.specs.Deciding.{What, contents, notMaster, request, poll, other}
 use Rattle.replying.specs.Fitting.{mayReply, wantedFits}
-use Rattle.replying.specs.Replying.{Origin, askedOf, polledOf}
+use Rattle.replying.specs.Replying.{askedOf, polledOf}
 use Rattle.replying.specs.declared.replying.Wanted.{Wanted}
 use Rattle.replying.specs.declared.replying.Wanted.the-variants.{None, Is}
 use Rattle.deskhearing.specs.Answers.{Told}

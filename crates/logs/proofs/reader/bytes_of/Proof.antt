@@ -1,10 +1,7 @@
 -- `bytes_of` takes the record's part of the log. Assumes nothing.
 use Rattle.logs.proofs.Found.{part-of}
 -- `bytes_of` takes the record's part of the log. Assumes nothing.
-use lib.ListN.{take, drop}
 use denote.Ref.{now}
-use Prim.Native.Nat.{ℕ}
-use mathlib.Core.Path.{_≡_, ap, _∙_}
 use borrow.Author.Needs.{needs}
 use Rattle.logs.proofs.reader.bytes_of.Statement.{statement}
 use Rattle.logs.proofs.reader.bytes_of.Tie as tie

@@ -3,9 +3,7 @@ use Rattle.logs.proofs.Found.{rest-of, rest-fits}
 use Rattle.logs.specs.Reader.{recordIn}
 use denote.Ref.{now}
 use native.Mathlib.Omega.{arith}
-use Prim.Native.Nat.{ℕ}
-use mathlib.Core.List.{List}
-use mathlib.Core.Path.{_≡_, ap, _∙_}
+use mathlib.Core.Path.{ap, _∙_}
 use borrow.Author.Needs.{needs}
 use Rattle.logs.proofs.reader.next_record.Statement.{statement}
 use Rattle.logs.proofs.reader.next_record.Tie as tie

@@ -1,9 +1,7 @@
 -- `record_in` tests what is left in the definition's order. Assumes nothing.
 use Rattle.logs.proofs.Found.{behind-mark}
-use Rattle.logs.specs.declared.marks.Marked.{Marked}
-use Rattle.logs.specs.Reader.{Found, recordIn, markedIn}
+use Rattle.logs.specs.Reader.{recordIn}
 use denote.Ref.{now}
-use mathlib.Core.Path.{_≡_, ap, _∙_}
 use Rattle.logs.specs.Reader.{recordIn}
 use Rattle.laws.proofs.Tests.{tests}
 use borrow.Author.Needs.{needs}

@@ -6,7 +6,7 @@ use mathlib.Core.List.{List}
 -- `put_record` puts mark, time, length and bytes one behind the other. Assumes nothing.
 use Rattle.logs.specs.Records.{recordBytes}
 use Rattle.text.proofs.Puts.{then}
-use mathlib.Core.Path.{_≡_, refl, ap, _∙_}
+use mathlib.Core.Path.{ap, _∙_}
 use borrow.Author.Needs.{needs}
 use Rattle.logs.proofs.writer.put_record.Statement.{statement}
 use Rattle.logs.proofs.writer.put_record.Tie as tie

@@ -5,8 +5,6 @@ use Rattle.laws.proofs.Truths.{not-true, not-false}
 use native.Mathlib.Omega.{arith}
 use denote.Ref.{now}
 use mathlib.Core.Path.{sym, _∙_}
-use Rattle.logs.specs.Writer.{writeOf}
-use Rattle.laws.proofs.Tests.{tests}
 use borrow.Author.Needs.{needs}
 use Rattle.logs.proofs.writer.write_record.Statement.{statement}
 use Rattle.logs.proofs.writer.write_record.Tie as tie

@@ -1,6 +1,6 @@
 -- `masterhearing::hearing::settle` does with a verdict what its definition says. Assumes nothing.
 use denote.Ref.{now}
-use mathlib.Core.Path.{sym, _∙_}
+use mathlib.Core.Path.{_∙_}
 use Rattle.master.proofs.Ranges.{line-noted, line-noted-busy}
 use Rattle.masterhearing.proofs.Hears.{settle-bad, settle-other, settle-failed, settle-answered, settle-ended}
 use borrow.Author.Needs.{needs}

@@ -3,7 +3,6 @@ use Rattle.replaying.proofs.Turning.{refused-turn, wanted, some-read, n
 use Rattle.replaying.proofs.Checks.{fits}
 use Rattle.lister.specs.declared.state.Wants.the-variants.{Read, Again, End}
 use Rattle.framing.specs.Answers.{faultOf}
-use lib.ListN.{length}
 use denote.Ref.{now}
 use native.Mathlib.Omega.{arith}
 use mathlib.Core.Path.{sym, ap, _∙_}

@@ -2,7 +2,7 @@
 use Rattle.replays.proofs.Step.{on-record, on-nothing, on-refusal}
 use Rattle.logs.specs.Reader.{nextOf}
 use denote.Ref.{now}
-use mathlib.Core.Path.{_≡_, sym, ap, _∙_}
+use mathlib.Core.Path.{ap}
 use borrow.Author.Needs.{needs}
 use Rattle.replays.proofs.part.put_next.Statement.{statement}
 use Rattle.replays.proofs.part.put_next.Tie as tie

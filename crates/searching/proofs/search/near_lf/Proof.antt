@@ -1,7 +1,6 @@
 -- `near_lf` looks back for the nearest LF byte by byte. Assumes nothing.
 use Prim.Native.Nat.{_+_, _-_}
 use native.Mathlib.Omega.{arith}
-use lib.ListN.{length}
 use borrow.Author.Needs.{needs}
 use denote.Ref.{now}
 use Rattle.searching.proofs.Looks.{NoLf, no-lf-yet, no-lf-at, lf-at, no-lf-near}

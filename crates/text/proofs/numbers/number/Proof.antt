@@ -1,5 +1,5 @@
 -- `number` takes digit after digit. Assumes nothing.
-use mathlib.Core.Path.{_≡_, refl, sym, ap, _∙_}
+use mathlib.Core.Path.{_≡_, refl, _∙_}
 use Prim.Native.Nat.{_≤_, _<_, _-_, _%_, _^_}
 use native.Mathlib.Omega.{arith}
 use mathlib.Core.Bool.{true}

@@ -1,6 +1,6 @@
 -- `values::values::permits_digits` meets its contract. Assumes nothing.
 use Rattle.laws.specs.Numerals.{numeralOn, numeral}
-use Prim.Native.Nat.{_≤_, _-_}
+use Prim.Native.Nat.{_≤_}
 use borrow.Author.Needs.{needs}
 use native.Mathlib.Omega.{arith}
 use mathlib.Core.Path.{_≡_, refl, sym, _∙_}

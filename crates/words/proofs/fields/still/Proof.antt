@@ -1,6 +1,5 @@
 -- `still` meets its contract. Assumes nothing.
 use borrow.Author.Tests.{eq-eqb, ne-eqb}
-use borrow.Author.Needs.{needs}
 use Rattle.words.proofs.fields.still.Statement.{statement}
 use Rattle.words.proofs.fields.still.Tie as tie
 
