@@ -7,7 +7,7 @@
 # make try: runs the two C examples against each other over pseudo-terminals.
 # make check: the gate.
 # make soak FACTOR=20: compares the library with the second version, 20 times as much as the gate does.
-# make emulated CHUNKS=3: the tests through the C face in an emulator, on a machine that is not x86-64; it installs Debian packages.
+# make emulated CHUNKS=3: the archive for x86-64 tested in an emulator, on a machine that is not x86-64; it installs Debian packages.
 # make bench: measures how fast the library is.
 # make help: these lines.
 LINE ?= 1
