@@ -9,22 +9,29 @@ import sys
 
 ROW = re.compile(r'^(.+?)\s+[\d.]+ ns\s+([\d.]+)\s+([\d.]+) to ([\d.]+)$')
 LEFT, WIDE, HIGH, TOP = 290, 420, 22, 34
-LEAST, MOST = 0.1, 100
+LEAST = 0.1
 
 
-def across(ratio):
-    """Where a ratio stands, on a scale of powers of ten."""
-    return LEFT + WIDE * (math.log10(ratio) - math.log10(LEAST)) / (math.log10(MOST) - math.log10(LEAST))
+def scale(most):
+    """The marks of a scale of powers of ten that reaches the highest ratio."""
+    marks = [LEAST, 1, 10]
+    while marks[-1] < most:
+        marks.append(marks[-1] * 10)
+    return marks
 
 
 def main():
     rows = [(m[1], float(m[2]), float(m[3]), float(m[4])) for m in map(ROW.match, sys.stdin.read().splitlines()) if m and 'wc -l' not in m[1]]
     rows.sort(key=lambda row: row[1])
+    marks = scale(max(row[3] for row in rows))
+
+    def across(ratio):
+        return LEFT + WIDE * math.log(ratio / LEAST) / math.log(marks[-1] / LEAST)
     height = TOP + HIGH * len(rows) + 30
     out = [f'<svg xmlns="http://www.w3.org/2000/svg" width="{LEFT + WIDE + 70}" height="{height}" font-family="sans-serif" font-size="12">',
            '<rect width="100%" height="100%" fill="white"/>',
            f'<text x="{LEFT}" y="16">time of the library beside the plain Rust version (1: the same; left of it quicker)</text>']
-    for mark in (0.1, 1, 10, 100):
+    for mark in marks:
         x = across(mark)
         out.append(f'<line x1="{x:.1f}" y1="{TOP - 8}" x2="{x:.1f}" y2="{height - 22}" stroke="{"black" if mark == 1 else "#cccccc"}"/>')
         out.append(f'<text x="{x:.1f}" y="{height - 8}" text-anchor="middle">{mark:g}</text>')

@@ -105,15 +105,20 @@ fn no_other_edit_passes() {
     }
 }
 
-/// A crate that is not proved fails, and so does one that is not proved over its own modules.
+/// A crate that is not proved fails, and so does one that was changed since or is not proved over its own modules.
 #[test]
 fn a_crate_must_be_proved() {
     let folder = made("unproved", &edit("right once", "wrong once"));
     fs::remove_file(folder.join("target/stamp/upper")).expect("it goes");
     let (last, said, well) = tried(&folder, &[], "1");
     assert_eq!(last, "0 passed, 1 failed");
-    assert!(said.contains("upper is not proved"), "{said}");
+    assert!(said.contains("upper is not proved as it stands"), "{said}");
     assert!(!well);
+    let folder = made("changed", &edit("right once", "wrong once"));
+    std::thread::sleep(std::time::Duration::from_millis(50));
+    fs::write(folder.join("crates/upper/src/lib.rt"), "right once\n").expect("a file");
+    let (last, said, _) = tried(&folder, &[], "1");
+    assert_eq!(last, "0 passed, 1 failed", "{said}");
     let folder = made("unedited", &edit("right once", "wrong once"));
     assert_eq!(tried(&folder, &["--unedited"], "0").0, "1 passed, 0 failed");
     let (last, said, _) = tried(&folder, &["--unedited"], "1");
