@@ -34,7 +34,10 @@ MACHINE := $(shell uname -m)
 # in656.pc for a prefix, a folder of libraries and one of headers
 PC = sed -e 's|@PREFIX@|$(1)|' -e 's|@LIBDIR@|$(2)|' -e 's|@INCLUDEDIR@|$(3)|' -e 's|@VERSION@|$(VERSION)|' include/in656.pc.in
 
-ARCHIVE := target/archive/$(MACHINE)/libin656.a
+# where the build leaves what runs on this machine (tools/kit)
+OWN := $(if $(filter x86_64,$(MACHINE)),,target/native)
+ARCHIVE := $(or $(OWN),target/staticlib)/libin656.a
+PROGRAMS := $(or $(OWN),target/bin)
 HOST := cargo run --offline --quiet --manifest-path host/Cargo.toml
 
 # $(call need,COMMAND): stops with one line where the machine lacks a command
@@ -53,7 +56,7 @@ all: dist/libin656.a dist/$(SONAME) dist/in656.h dist/in656.pc dist/listing dist
 dist/listing dist/replay dist/scenes: dist/%: $(SOURCES)
 	@tools/build check $*
 	@mkdir -p dist
-	@cp target/bin/$* $@
+	@cp $(PROGRAMS)/$* $@
 
 $(ARCHIVE): $(SOURCES)
 	@tools/build archive in656

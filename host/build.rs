@@ -1,12 +1,17 @@
 //! Links the library's archive for the machine that the program is for, where it is built; else the
-//! tests of the C face say that they are skipped.
+//! tests of the C face say that they are skipped. rt writes the one for x86-64, and `tools/kit` has
+//! it write one for the machine at hand too.
 
 use std::path::Path;
 
 fn main() {
     let root = std::env::var("CARGO_MANIFEST_DIR").unwrap_or_default();
     let machine = std::env::var("CARGO_CFG_TARGET_ARCH").unwrap_or_default();
-    let folder = Path::new(&root).join("../target/archive").join(machine);
+    let folder = match machine.as_str() {
+        "x86_64" => "../target/staticlib",
+        _ => "../target/native",
+    };
+    let folder = Path::new(&root).join(folder);
     let archive = folder.join("libin656.a");
     println!("cargo:rustc-check-cfg=cfg(archive)");
     println!("cargo:rerun-if-changed=build.rs");

@@ -134,5 +134,5 @@ pub fn library() -> Result<&'static dyn Face, &'static str> {
     #[cfg(archive)]
     return Ok(&Linked);
     #[cfg(not(archive))]
-    return Err("its archive in target/archive is not there (make it: tools/archive in656)");
+    return Err("its archive is not built (run tools/build archive in656)");
 }

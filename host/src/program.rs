@@ -1,17 +1,42 @@
 //! Running the built programs; the program `scenes`, asked a row at a time.
 
 use crate::demo::Ends;
+use std::collections::BTreeMap;
+use std::env::consts::ARCH;
 use std::ffi::OsStr;
 use std::io::{BufRead, BufReader, Result, Write};
-use std::path::Path;
+use std::path::{Path, PathBuf};
 use std::process::{Child, ChildStdin, ChildStdout, Command, Stdio};
-use std::sync::OnceLock;
+use std::sync::Mutex;
 
 /// The running program; it ends when this is dropped, because its input ends then.
 pub struct Program {
     child: Child,
     input: Option<ChildStdin>,
     output: BufReader<ChildStdout>,
+}
+
+/// A path in the folder of what is built.
+fn in_target(folder: &str, name: &str) -> PathBuf {
+    let target = Path::new(env!("CARGO_MANIFEST_DIR")).join("../target");
+    target.join(folder).join(name)
+}
+
+/// The built program of this name, for this machine or as rt compiles it, for x86-64. A program for
+/// another machine must be of the module that rt compiled last (`tools/kit`).
+pub fn built(name: &str, machine: &str) -> PathBuf {
+    let folder = if machine == "x86_64" {
+        "bin"
+    } else {
+        let object = |folder| std::fs::read(in_target(folder, &format!("{name}.o"))).ok();
+        let same = object("obj") == object("native");
+        assert!(same, "{name} is proved anew: run tools/build check {name}");
+        "native"
+    };
+    let path = in_target(folder, name);
+    let there = path.is_file();
+    assert!(there, "{name} is not built: run tools/build check {name}");
+    path
 }
 
 /// The command that runs a built program: by `tools/run`, which knows what the machine needs.
@@ -23,15 +48,17 @@ pub fn command(path: impl AsRef<OsStr>) -> Command {
 
 /// The command that starts a built program itself, without the shell and the status of `tools/run`:
 /// for comparisons, which start it thousands of times. What must stand before it is asked once.
-pub fn started(path: impl AsRef<OsStr>) -> Command {
-    static BEFORE: OnceLock<Vec<String>> = OnceLock::new();
-    let before = BEFORE.get_or_init(|| {
-        let asked = command("--before").output().expect("tools/run runs");
-        assert!(asked.status.success(), "tools/run knows this machine");
+pub fn started(path: &Path) -> Command {
+    static BEFORE: Mutex<BTreeMap<PathBuf, Vec<String>>> = Mutex::new(BTreeMap::new());
+    let mut known = BEFORE.lock().expect("no test broke it");
+    let words = known.entry(path.into()).or_insert_with(|| {
+        let asked = command("--before").arg(path).output();
+        let asked = asked.expect("tools/run runs");
+        assert!(asked.status.success(), "tools/run knows the program");
         let words = String::from_utf8(asked.stdout).expect("it says text");
         words.lines().map(Into::into).collect()
     });
-    let Some((first, more)) = before.split_first() else {
+    let Some((first, more)) = words.split_first() else {
         return Command::new(path);
     };
     let mut command = Command::new(first);
@@ -41,9 +68,7 @@ pub fn started(path: impl AsRef<OsStr>) -> Command {
 
 /// What the built program of this name says of an input.
 pub fn said(name: &str, input: &str) -> String {
-    let path = Path::new(env!("CARGO_MANIFEST_DIR")).join(format!("../target/bin/{name}"));
-    assert!(path.is_file(), "build the program {name} first");
-    let mut child = command(path)
+    let mut child = command(built(name, ARCH))
         .stdin(Stdio::piped())
         .stdout(Stdio::piped())
         .spawn()
@@ -58,6 +83,11 @@ pub fn said(name: &str, input: &str) -> String {
 }
 
 impl Program {
+    /// Starts the program of this name that is built for this machine.
+    pub fn of(name: &str) -> Program {
+        Program::start(built(name, ARCH)).expect("the program starts")
+    }
+
     /// Starts the program at a path.
     pub fn start(path: impl AsRef<OsStr>) -> Result<Program> {
         std::fs::metadata(path.as_ref())?;

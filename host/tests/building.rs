@@ -15,6 +15,7 @@ const KIT: &str = "kit of the test";
 const RT: &str = r#"#!/bin/sh
 case $1 in
 version) echo "$KIT"; exit ;;
+staticlib) echo "an archive of $2 by $RATTLE_HOME"; exit ;;
 esac
 mkdir -p target/log
 for crate in one two three; do
@@ -40,10 +41,7 @@ fn made(name: &str) -> PathBuf {
         fs::copy(repository(tool), folder.join(tool)).expect("a copy");
     }
     fs::write(folder.join("tools/kit-version"), format!("{KIT}\n")).expect("a file");
-    program(
-        &folder.join("tools/archive"),
-        "#!/bin/sh\necho \"an archive of $1\"\n",
-    );
+    program(&folder.join("tools/kit"), "#!/bin/sh\necho \"$1\"\n");
     fs::write(folder.join("crates.txt"), "one:\ntwo: one io\nthree: two\n").expect("a file");
     program(&folder.join("bin/rt"), RT);
     folder
@@ -97,7 +95,8 @@ fn one_line_a_crate() {
     assert!(text(&output.stderr).contains("proving 3 of 3: three\n"));
     assert!(output.status.success());
     let log = fs::read_to_string(folder.join("target/build.log")).expect("the log");
-    assert!(log.contains("an archive of three"), "{log}");
+    let kit = format!("an archive of three by {}/target/kit", folder.display());
+    assert!(log.contains(&kit), "{log}");
 }
 
 /// The prover's lines are shown of the crate that fails, and of no other.

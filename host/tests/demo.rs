@@ -17,7 +17,7 @@ fn repository(path: &str) -> PathBuf {
 
 /// The program `scenes`, started.
 fn program() -> Program {
-    Program::start(repository("target/bin/scenes")).expect("build the program scenes first")
+    Program::of("scenes")
 }
 
 /// The exchange that `make demo` shows.

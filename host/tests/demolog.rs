@@ -9,11 +9,12 @@ use host::face::library;
 use host::logging::{school, written};
 use host::logs::{entries, Mark};
 use host::odds::{IDLE, SHOWN};
-use host::program::Program;
+use host::program::{built, Program};
 use host::replay::replay;
 use host::script::Bench;
 use host::second::Second;
 use running::REPLAY;
+use std::env::consts::ARCH;
 use std::path::{Path, PathBuf};
 use std::process::Command;
 
@@ -103,7 +104,7 @@ fn a_log_replays() {
 #[test]
 fn a_log_replays_by_the_programs() {
     for line in 1..=3 {
-        let scenes = Program::start(repository("target/bin/scenes")).expect("build scenes first");
+        let scenes = Program::of("scenes");
         let name = format!("log of line {line}");
         let run = shown(scenes, line, 656);
         let rows = REPLAY.compare(&name, &run.2);
@@ -129,8 +130,7 @@ fn the_kept_log() {
     }
     let file = Path::new(env!("CARGO_TARGET_TMPDIR")).join("demo.log");
     let mut demo = Command::new(env!("CARGO_BIN_EXE_demo"));
-    demo.args(["1", "2491", "90"])
-        .arg(repository("target/bin/scenes"));
+    demo.args(["1", "2491", "90"]).arg(built("scenes", ARCH));
     let output = demo.arg(&file).arg("idle").output().expect("it runs");
     assert!(output.status.success());
     assert_eq!(std::fs::read(&file).expect("a log"), kept);
@@ -162,8 +162,7 @@ fn asked_for() {
         ),
     ] {
         let mut demo = Command::new(env!("CARGO_BIN_EXE_demo"));
-        demo.args(["1", "33", "1"])
-            .arg(repository("target/bin/scenes"));
+        demo.args(["1", "33", "1"]).arg(built("scenes", ARCH));
         let output = demo.args([log, panel]).output().expect("it runs");
         assert_eq!(output.status.code(), Some(2));
         let said = String::from_utf8_lossy(&output.stderr).into_owned();

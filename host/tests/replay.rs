@@ -12,12 +12,6 @@ use host::replay::{by_hand, replay};
 use host::script::Bench;
 use host::{both::BothEnds, second::Second};
 use running::{on_line, REPLAY};
-use std::path::{Path, PathBuf};
-
-/// A path in the repository.
-fn repository(path: &str) -> PathBuf {
-    Path::new(env!("CARGO_MANIFEST_DIR")).join("..").join(path)
-}
 
 /// The last line of a text.
 fn last(text: &str) -> &str {
@@ -216,11 +210,27 @@ fn random_logs() {
     }
 }
 
+/// As rt compiles it, which another machine runs in an emulator.
+#[test]
+fn the_program_for_x86_64() {
+    let replay = REPLAY.for_x86_64();
+    let mut random = Random::seeded(86);
+    for round in 0..30 {
+        let line = 1 + (round % 3) as u8;
+        let mut bytes = log(&mut random, line, 300);
+        if round % 2 == 1 {
+            spoil(&mut random, &mut bytes);
+        }
+        let input = on_line(line, &[&bytes]);
+        replay.compare(&format!("x86-64, round {round}"), &input);
+    }
+}
+
 /// The rows are what the desk of the program `scenes` does when it is run by hand, and that of the
 /// library where it is linked.
 #[test]
 fn the_desk_by_hand() {
-    let mut scenes = Program::start(repository("target/bin/scenes")).expect("build scenes first");
+    let mut scenes = Program::of("scenes");
     let mut random = Random::seeded(21);
     for round in 0..30 {
         let line = 1 + (round % 3) as u8;

@@ -2,8 +2,9 @@
 //! say so on standard error, and `tools/run` ends with status 1.
 
 use host::listing::listing;
-use host::program::command;
+use host::program::{built, command};
 use host::replay::replay;
+use std::env::consts::ARCH;
 use std::fs::File;
 use std::io::{Read, Write};
 use std::os::fd::OwnedFd;
@@ -22,9 +23,7 @@ const PROGRAMS: [&str; 2] = ["listing", "replay"];
 
 /// The command that runs a program.
 fn program(name: &str) -> Command {
-    let path = repository("target/bin").join(name);
-    assert!(path.is_file(), "build the program {name} first");
-    command(path)
+    command(built(name, ARCH))
 }
 
 /// A sample for a program, as standard input.

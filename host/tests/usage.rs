@@ -1,8 +1,8 @@
 //! Every program says on standard error how it is called where its arguments are wrong, and ends
 //! with status 2. The C examples are tried in `examples.rs`.
 
-use host::program::command;
-use std::path::Path;
+use host::program::{built, command};
+use std::env::consts::ARCH;
 use std::process::{Command, Output, Stdio};
 
 /// Checks that a run printed nothing, said how the program is called, and ended with status 2.
@@ -51,9 +51,7 @@ fn the_proved_programs() {
         ("cases", "cases < ROWS"),
         ("damage", "damage"),
     ] {
-        let path = Path::new(env!("CARGO_MANIFEST_DIR")).join(format!("../target/bin/{name}"));
-        assert!(path.is_file(), "build the program {name} first");
-        let mut program = command(path);
+        let mut program = command(built(name, ARCH));
         let output = program.arg("line1.cap").stdin(Stdio::null()).output();
         says(&output.expect("it runs"), usage);
     }

@@ -203,12 +203,6 @@ fn each_byte(face: &impl Face, name: &str, bytes: &[u8]) {
     );
 }
 
-/// True where the built programs run on the machine itself and not in an emulator.
-fn own_programs() -> bool {
-    let before = Command::new("tools/run").arg("--before").output();
-    before.is_ok_and(|output| output.status.success() && output.stdout.is_empty())
-}
-
 /// The program that lists captures beside `wc -l`, both reading one file of a capture many times over.
 fn beside_wc(name: &str, bytes: &[u8]) -> std::io::Result<()> {
     let path = std::env::temp_dir().join(format!("bench-{}.cap", std::process::id()));
@@ -267,18 +261,11 @@ fn main() {
         ("noise full of LF", full),
         ("noise without LF", without),
     ];
-    let timed = own_programs();
     for (name, bytes) in captures {
         each_byte(face, name, &bytes);
-        if !timed {
-            continue;
-        }
         if let Err(trouble) = beside_wc(name, &bytes) {
             stop(&format!("bench: {trouble}"));
         }
-    }
-    if !timed {
-        println!("listing beside wc -l is left out: the programs are for x86-64, and this machine runs them in an emulator");
     }
     println!("ratio: the library's time over the second version's or over that of wc -l, the median, then the lowest and the highest");
 }

@@ -5,8 +5,9 @@
 #![allow(dead_code)]
 
 use host::listing::listing;
-use host::program::started;
+use host::program::{built, started};
 use host::replay::replay;
+use std::env::consts::ARCH;
 use std::fs::{self, File};
 use std::io::{ErrorKind, Write};
 use std::path::{Path, PathBuf};
@@ -19,16 +20,19 @@ pub const SAMPLE: &[u8] = b"3\n08A0AAA5\r\n08A0AAA6\r";
 /// A built program and what the second version says that it prints.
 pub struct Built {
     name: &'static str,
+    machine: &'static str,
     second: fn(&[u8]) -> String,
 }
 
 pub const LISTING: Built = Built {
     name: "listing",
+    machine: ARCH,
     second: listing,
 };
 
 pub const REPLAY: Built = Built {
     name: "replay",
+    machine: ARCH,
     second: replay,
 };
 
@@ -38,18 +42,19 @@ fn file_for(name: &str) -> PathBuf {
 }
 
 impl Built {
-    /// The program's path: the environment variable of its name in capitals, else
-    /// ../target/bin/name; a relative path is taken from the crate's folder.
+    /// The same program as rt compiles it, which another machine runs in an emulator.
+    pub fn for_x86_64(self) -> Built {
+        let machine = "x86_64";
+        Built { machine, ..self }
+    }
+
+    /// The program's path: that in the environment variable of its name in capitals, taken from the
+    /// crate's folder, else where it is built.
     fn path(&self) -> PathBuf {
-        let (name, variable) = (self.name, self.name.to_uppercase());
-        let named = std::env::var_os(&variable).unwrap_or(format!("../target/bin/{name}").into());
-        let path = Path::new(env!("CARGO_MANIFEST_DIR")).join(named);
-        assert!(
-            path.is_file(),
-            "the program {name} is not at {}: build it first, or name it in {variable}",
-            path.display()
-        );
-        path
+        match std::env::var_os(self.name.to_uppercase()) {
+            Some(named) => Path::new(env!("CARGO_MANIFEST_DIR")).join(named),
+            None => built(self.name, self.machine),
+        }
     }
 
     /// What the program prints when standard input is given or fed from another thread; it must
@@ -59,7 +64,7 @@ impl Built {
         stdin: Stdio,
         feed: impl FnOnce(ChildStdin) -> std::io::Result<()> + Send,
     ) -> Vec<u8> {
-        let mut child = started(self.path())
+        let mut child = started(&self.path())
             .stdin(stdin)
             .stdout(Stdio::piped())
             .stderr(Stdio::piped())
