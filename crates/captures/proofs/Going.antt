@@ -7,7 +7,7 @@ use native.Mathlib.Omega.{arith}
 use lib.ListN.{length, take, drop}
 use lib.Seq.{length-take-le}
 use Rattle.characters.specs.Marks.{unfinished}
-use Rattle.reading.specs.Answers.{written}
+use Rattle.records.specs.Answers.{written}
 use Rattle.listings.specs.Lines.{wrapped, lineRoom}
 use Rattle.pieces.specs.declared.pieces.Listed.{Listed}
 use Rattle.lister.specs.declared.state.Lister.{Lister}

@@ -11,8 +11,7 @@ use borrow.Author.Tests.{le-leb, eqb-true, eqb-false, ne-eqb}
 use Rattle.laws.proofs.Passes.{on-test, from-bounds}
 use Rattle.characters.specs.Marks.{unfinished}
 use Rattle.lines.specs.Lines.{isLine}
-use Rattle.framing.specs.Answers.{good}
-use Rattle.reading.specs.Answers.{written}
+use Rattle.records.specs.Answers.{good, written}
 use Rattle.text.specs.Putting.{puts}
 use Rattle.text.proofs.Puts.{at-front}
 use Rattle.listings.specs.Lines.{lineRoom}

@@ -5,8 +5,7 @@ use mathlib.Core.List.{List}
 use Prim.Native.Nat.{ℕ, _+_}
 use lib.ListN.{length, take}
 use Rattle.records.specs.Refusals.{No}
-use Rattle.framing.specs.Answers.{good, fails}
-use Rattle.reading.specs.Answers.{Outcome, written, refused}
+use Rattle.records.specs.Answers.{good, fails, Outcome, written, refused}
 use Rattle.text.specs.Putting.{puts}
 use Rattle.pieces.specs.declared.pieces.Listed.{Listed}
 use Rattle.lister.specs.declared.state.Lister.{Lister}

@@ -4,8 +4,7 @@ use mathlib.Core.List.{List, [], _∷_, _++_}
 use Prim.Native.Nat.{ℕ, _≤_, _<_}
 use lib.ListN.{length, take}
 use Rattle.characters.specs.Marks.{longest, unfinished}
-use Rattle.framing.specs.Answers.{good}
-use Rattle.reading.specs.Answers.{Outcome, written, refused}
+use Rattle.records.specs.Answers.{good, Outcome, written, refused}
 use Rattle.listings.specs.Lines.{lineRoom}
 use Rattle.lister.specs.declared.state.Lister.{Lister}
 use Rattle.lister.specs.declared.state.Wants.the-variants.{Read, Again, End}

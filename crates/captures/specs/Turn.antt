@@ -3,8 +3,7 @@ use Prim.Native.Nat.{ℕ, _+_, _-_}
 use mathlib.Core.Bool.{cond}
 use mathlib.Core.List.{List}
 use lib.ListN.{length, take}
-use Rattle.framing.specs.Answers.{Fault, good, fails}
-use Rattle.reading.specs.Answers.{Outcome, written, refused}
+use Rattle.records.specs.Answers.{Fault, good, fails, Outcome, written, refused}
 use Rattle.text.specs.Putting.{puts}
 use Rattle.pieces.specs.declared.pieces.Listed.{Listed}
 use Rattle.listings.specs.Lines.{wrapped}

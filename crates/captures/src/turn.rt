@@ -1,17 +1,17 @@
 // A turn of a listing: what was read is listed, and what the next turn needs is kept (rules P2, P3, P5, P10).
 ghost use mathlib.Core.Path.{_≡_};
-ghost use Rattle.reading.specs.Answers.{outcomeOf};
+ghost use Rattle.records.specs.Answers.{outcomeOf};
 ghost use Rattle.captures.specs.Turn.{unnamed, carriedOn, listOf};
 use characters::slices::less;
 use characters::slices::part;
-use framing::answers::Check;
 use lister::line::bad_line;
 use lister::state::Lister;
 use lister::state::Task;
 use lister::state::Wants;
 use pieces::pieces::kept_from;
 use pieces::pieces::list_part;
-use reading::answers::Writing;
+use records::answers::Check;
+use records::answers::Writing;
 use tails::tails::keep_tail;
 use text::putting::put_text;
 

@@ -1,7 +1,7 @@
 -- The paper's numbers and places tell the answers of cutting and reading apart (rule G3). Assumes nothing.
 use mathlib.Core.Path.{_≡_, refl}
 use Rattle.records.proofs.Apart.{one-refusal}
-use Rattle.reading.proofs.Apart.{one-reading}
+use Rattle.records.proofs.Apart.{one-reading}
 use Rattle.cutting.specs.Cutting.{OneCutting}
 use Rattle.cutting.specs.declared.cutting.Cutting as c
 

@@ -5,8 +5,8 @@ use mathlib.Core.List.{List}
 use Prim.Native.Nat.{ℕ}
 use Rattle.records.specs.Refusals.{no}
 use Rattle.lines.specs.Lines.{isLine}
-use Rattle.reading.specs.declared.answers.Reading.{Reading}
-use Rattle.reading.specs.Answers.{answerOf}
+use Rattle.records.specs.declared.answers.Reading.{Reading}
+use Rattle.records.specs.Answers.{answerOf}
 use Rattle.reading.specs.Reading.{readingOf}
 use Rattle.searching.specs.declared.search.Span.the-variants.{Found, Nothing}
 use Rattle.searching.specs.Search.{spanOf, partOf}

@@ -5,7 +5,7 @@ use mathlib.Core.Bool.{cond}
 use mathlib.Core.List.{List}
 use Rattle.records.specs.Refusals.{No, no, refusalOf}
 use Rattle.lines.specs.Lines.{isLine}
-use Rattle.reading.specs.Answers.{Answer, answerOf}
+use Rattle.records.specs.Answers.{Answer, answerOf}
 use Rattle.reading.specs.Reading.{readingOf}
 use Rattle.searching.specs.declared.search.Span.{Span}
 use Rattle.searching.specs.declared.search.Span.the-variants.{Found, Nothing}

@@ -2,8 +2,8 @@
 ghost use mathlib.Core.Path.{_≡_};
 ghost use Rattle.cutting.specs.Cutting.{cuttingOf, nextOf};
 use lines::lines::is_line;
-use reading::answers::Reading;
 use reading::reading::read;
+use records::answers::Reading;
 use records::refusals::Refusal;
 use searching::search::Span;
 use searching::search::part_of;

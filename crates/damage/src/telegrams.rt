@@ -1,8 +1,8 @@
 // Case h with every byte replaced by every value, and inputs of many lengths: what the rules give is written here by hand.
 use characters::slices::part;
 use characters::slices::wide;
-use reading::answers::Reading;
 use reading::reading::read;
+use records::answers::Reading;
 use records::refusals::number_of;
 use records::refusals::place_of;
 

@@ -13,7 +13,7 @@ use Rattle.forms.specs.Forms.{slotsIn}
 use Rattle.values.specs.Values.{permitted, valueOf}
 use Rattle.characters.proofs.Parts.{part-first}
 use Rattle.forms.proofs.Slots.{slots-step}
-use Rattle.framing.specs.declared.answers.Spot.the-variants.{At}
+use Rattle.records.specs.declared.answers.Spot.the-variants.{At}
 use Rattle.datafields.specs.Field.{outside, wrongLetter, badValue, valuesIn}
 
 -- one byte of the field

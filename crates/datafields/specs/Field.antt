@@ -8,8 +8,8 @@ use Rattle.characters.specs.Characters.{inSet}
 use Rattle.forms.specs.Forms.{Slot, slotsOf, widthOf}
 use Rattle.values.specs.Values.{textOf, valueOf, permitted}
 use Rattle.formrows.specs.declared.rows.Form.{Form}
-use Rattle.framing.specs.declared.answers.Spot.{Spot}
-use Rattle.framing.specs.declared.answers.Spot.the-variants.{Nowhere, At}
+use Rattle.records.specs.declared.answers.Spot.{Spot}
+use Rattle.records.specs.declared.answers.Spot.the-variants.{Nowhere, At}
 
 -- the data field of packets with these values: each a letter and then its value
 unfoldable pub dataOf : List Slot → List ℕ → List ℕ

@@ -9,7 +9,7 @@ use characters::slices::wide;
 use formrows::rows::Form;
 use forms::table::count_of;
 use forms::table::width_of;
-use framing::answers::Spot;
+use records::answers::Spot;
 use values::values::permits_text;
 use values::values::value_of;
 

@@ -14,13 +14,12 @@ use Rattle.laws.proofs.Truths.{clash}
 use Rattle.laws.proofs.Passes.{on-test, oneOf-passes, from-bounds}
 use Rattle.lines.specs.Lines.{isLine}
 use Rattle.records.specs.declared.records.Record.{Record}
-use Rattle.framing.specs.Answers.{Fault, good, fails, firstFault}
-use Rattle.reading.specs.Answers.{Answer, accepted, refused, unless}
+use Rattle.records.specs.Answers.{Fault, good, fails, firstFault, Answer, accepted, refused, unless}
 use Rattle.framing.specs.Frame.{frameChecks}
 use Rattle.reading.specs.Field.{fieldChecks}
 use Rattle.reading.specs.Reading.{recordIn, checks, readingOf}
-use Rattle.framing.specs.declared.answers.Spot.{Spot}
-use Rattle.framing.specs.declared.answers.Spot.the-variants.{Nowhere, At}
+use Rattle.records.specs.declared.answers.Spot.{Spot}
+use Rattle.records.specs.declared.answers.Spot.the-variants.{Nowhere, At}
 use Rattle.roundtrips.proofs.Faults.{good-faultless}
 use Rattle.roundtrips.proofs.Frames.{faultless-framed}
 use Rattle.roundtrips.proofs.Trips.{read-permitted}

@@ -10,7 +10,7 @@ use borrow.Author.Tests.{eq-eqb, ne-eqb, le-ltb, lt-ltb}
 use Rattle.forms.specs.Forms.{byMaster}
 use Rattle.records.specs.Records.{typeOf}
 use Rattle.records.specs.declared.records.Record.{Record}
-use Rattle.reading.specs.Answers.{accepted, refused}
+use Rattle.records.specs.Answers.{accepted, refused}
 use Rattle.reading.specs.Reading.{readingOf}
 use Rattle.clock.specs.Counters.{sameNumber, isNumber, numberIn}
 use Rattle.records.specs.Refusals.{No}

@@ -10,7 +10,7 @@ use Rattle.laws.specs.Truth.{both, from}
 use Rattle.forms.specs.Forms.{byMaster}
 use Rattle.records.specs.Records.{typeOf}
 use Rattle.records.specs.declared.records.Record.{Record}
-use Rattle.reading.specs.Answers.{Answer, accepted, refused}
+use Rattle.records.specs.Answers.{Answer, accepted, refused}
 use Rattle.reading.specs.Reading.{readingOf}
 use Rattle.clock.specs.Counters.{sameNumber, isNumber, numberIn}
 use Rattle.records.specs.Refusals.{No, refusalOf}

@@ -9,7 +9,7 @@ use lib.ListN.{getD}
 use borrow.Author.Tests.{eqb-false, ne-eqb}
 use Rattle.records.specs.declared.records.Record.{Record}
 use Rattle.values.specs.Values.{permitsRecord}
-use Rattle.framing.specs.Answers.{Fault, good, fails, firstFault}
+use Rattle.records.specs.Answers.{Fault, good, fails, firstFault}
 use Rattle.framing.specs.Frame.{frameChecks}
 use Rattle.writing.specs.Writing.{telegramOf}
 use Rattle.roundtrips.proofs.Faults.{faultless-good}

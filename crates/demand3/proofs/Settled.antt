@@ -12,8 +12,8 @@ use Rattle.laws.proofs.Truths.{both-left, both-right}
 use Rattle.laws.proofs.Passes.{on-test, from-bounds}
 use Rattle.records.specs.declared.records.Record.{Record}
 use Rattle.records.specs.Refusals.{No}
-use Rattle.reading.specs.Answers.{Answer, accepted}
-use Rattle.reading.specs.Answers as w
+use Rattle.records.specs.Answers.{Answer, accepted}
+use Rattle.records.specs.Answers as w
 use Rattle.framing.specs.Frame.{frameChecks}
 use Rattle.reading.specs.Reading.{readingOf}
 use Rattle.roundtrips.proofs.Faults.{faultless-good}

@@ -7,10 +7,8 @@ use lib.Dec.{eqb}
 use lib.ListN.{length, getD}
 use Rattle.records.specs.Records.{typeOf}
 use Rattle.records.specs.declared.records.Record.{Record}
-use Rattle.framing.specs.Answers.{Fault, firstFault}
-use Rattle.reading.specs.Answers.{Answer, accepted}
-use Rattle.framing.specs.Answers as checked
-use Rattle.reading.specs.Answers as w
+use Rattle.records.specs.Answers.{Fault, firstFault, Answer, accepted}
+use Rattle.records.specs.Answers as w
 use Rattle.framing.specs.Frame.{frameChecks}
 use Rattle.reading.specs.Reading.{readingOf}
 use Rattle.clock.specs.Clock.{runOut}
@@ -33,8 +31,8 @@ module _ (line : ℕ) (bytes : List ℕ) where
   split false p q = q
 
   passed : (f : Fault) (m : Master) (out : List ℕ) {turn : Behind} → Right turn → Right (unlessRefused f m out turn)
-  passed checked.good m out p = p
-  passed (checked.fails x) m out p = record { told = tt }
+  passed w.good m out p = p
+  passed (w.fails x) m out p = record { told = tt }
 
   -- a verdict's record or answer is the reading of these bytes
   abbrev Reads : Judged → Type 0
@@ -71,9 +69,9 @@ module _ (line : ℕ) (bytes : List ℕ) where
   frame-reads number kind = go (firstFault 1 (frameChecks bytes)) (sameNumber number (numberIn (getD bytes 4 0)))
     where
       go : (f : Fault) (b : Bool) → Reads (unlessBad f (cond b (takenOf line kind (readingOf line bytes)) j.otherNumber))
-      go checked.good true = answer-reads kind (readingOf line bytes) refl
-      go checked.good false = tt
-      go (checked.fails x) b = tt
+      go w.good true = answer-reads kind (readingOf line bytes) refl
+      go w.good false = tt
+      go (w.fails x) b = tt
 
 module _ (m : Master) (at : ℕ) (bytes out : List ℕ) where
   heard : Right (m .line) bytes (hearOf m at bytes out)

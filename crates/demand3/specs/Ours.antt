@@ -7,8 +7,7 @@ use lib.ListN.{take}
 use Rattle.forms.specs.Forms.{byMaster, bySlave}
 use Rattle.records.specs.Records.{typeOf}
 use Rattle.records.specs.declared.records.Record.{Record}
-use Rattle.framing.specs.Answers.{Fault, good, fails, firstFault}
-use Rattle.reading.specs.Answers.{accepted}
+use Rattle.records.specs.Answers.{Fault, good, fails, firstFault, accepted}
 use Rattle.framing.specs.Frame.{frameChecks}
 use Rattle.reading.specs.Reading.{readingOf}
 use Rattle.master.specs.Answers.{Told, refused, nothing, sent, answered, otherKind, givenUp, ignored}

@@ -5,8 +5,8 @@ use mathlib.Core.List.{List, []}
 use Prim.Native.Nat.{ℕ, _≤_}
 use Rattle.lines.specs.Lines.{isLine}
 use Rattle.records.specs.Refusals.{No}
-use Rattle.reading.specs.Answers.{Answer, accepted}
-use Rattle.reading.specs.Answers as w
+use Rattle.records.specs.Answers.{Answer, accepted}
+use Rattle.records.specs.Answers as w
 use Rattle.reading.specs.Reading.{readingOf}
 use Rattle.master.specs.Answers.{Told, nothing, sent, answered, otherKind, givenUp, ignored}
 use Rattle.master.specs.Answers as t

@@ -9,7 +9,7 @@ use Rattle.records.specs.Refusals.{No, no}
 use Rattle.records.specs.Records.{typeOf}
 use Rattle.records.specs.declared.records.Record.{Record}
 use Rattle.values.specs.Values.{permitsRecord}
-use Rattle.framing.specs.Answers.{good, fails}
+use Rattle.records.specs.Answers.{good, fails}
 use Rattle.desk.specs.Answers.{done, lost, refused}
 use Rattle.lines.specs.Lines.{lineOf, isKey}
 use Rattle.desk.specs.State.{inRanges}

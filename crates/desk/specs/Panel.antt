@@ -10,7 +10,7 @@ use Rattle.records.specs.Records.{typeOf}
 use Rattle.records.specs.declared.records.Record.{Record}
 use Rattle.values.specs.Values.{permitsRecord}
 use Rattle.clock.specs.Clock.{runOut}
-use Rattle.framing.specs.Answers.{Fault, good, fails}
+use Rattle.records.specs.Answers.{Fault, good, fails}
 use Rattle.records.specs.Refusals.{no}
 use Rattle.lines.specs.Lines.{lineOf, isKey}
 use Rattle.replying.specs.declared.replying.Wanted.the-variants.{Is}

@@ -1,7 +1,7 @@
 // The desk's calls that hear nothing (rules D2 to D4): the clock's tick, and what the panel queues, sets and turns.
 ghost use mathlib.Core.Path.{_≡_};
 ghost use Prim.Native.Nat.{_<_};
-ghost use Rattle.framing.specs.Answers.{faultOf};
+ghost use Rattle.records.specs.Answers.{faultOf};
 ghost use Rattle.desk.specs.Answers.{doneOf};
 ghost use Rattle.desk.specs.Panel.{losesLine, notedOf, withQueued, withRequested, recordFault, keyFault, tickOf, queueOf, setOf, keyOf};
 use crate::answers::Outcome;
@@ -11,9 +11,9 @@ use crate::state::Waiting;
 use crate::state::Wanted;
 use clock::clock::run_out;
 use forms::table::data_type;
-use framing::answers::Check;
 use lines::lines::is_key;
 use lines::lines::line_of;
+use records::answers::Check;
 use records::records::Record;
 use records::records::type_of;
 use records::refusals::Refusal;

@@ -10,7 +10,7 @@ use Rattle.laws.specs.Truth.{oneOf}
 use Rattle.laws.specs.Text.{codes}
 use Rattle.laws.specs.Numerals.{numeralOn}
 use Rattle.characters.specs.Checksum.{hexOf, checkText, checksumOf}
-use Rattle.framing.specs.Answers.{good, fails, firstFault}
+use Rattle.records.specs.Answers.{good, fails, firstFault}
 use Rattle.framing.specs.Frame.{isTwo, countText, frameChecks, summedOf}
 
 -- the two characters of the byte count

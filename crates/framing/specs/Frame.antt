@@ -10,8 +10,8 @@ use Rattle.laws.specs.Text.{codes}
 use Rattle.laws.specs.Numerals.{numeral}
 use Rattle.characters.specs.Checksum.{checksumOf, checkText}
 pub use Rattle.characters.specs.Marks.{lf, cr}
-use Rattle.framing.specs.declared.answers.Spot.{Spot}
-use Rattle.framing.specs.declared.answers.Spot.the-variants.{Nowhere, At}
+use Rattle.records.specs.declared.answers.Spot.{Spot}
+use Rattle.records.specs.declared.answers.Spot.the-variants.{Nowhere, At}
 
 -- the byte count of a telegram of n bytes: its length less 2, as two decimal digits
 unfoldable pub countText : ℕ → List ℕ

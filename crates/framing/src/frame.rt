@@ -3,9 +3,8 @@ ghost use mathlib.Core.Path.{_≡_};
 ghost use mathlib.Core.List.{[], _∷_};
 ghost use Prim.Native.Nat.{_+_, _-_, _/_, _%_, _≤_};
 ghost use lib.ListN.{length, drop};
-ghost use Rattle.framing.specs.Answers.{faultOf, firstFault};
+ghost use Rattle.records.specs.Answers.{faultOf, firstFault};
 ghost use Rattle.framing.specs.Frame.{isTwo, frameChecks};
-use crate::answers::Check;
 use characters::checksum::checksum;
 use characters::checksum::hex;
 use characters::marks::CR;
@@ -15,6 +14,7 @@ use characters::marks::SHORTEST;
 use characters::slices::byte_at;
 use characters::slices::less;
 use characters::slices::part;
+use records::answers::Check;
 use records::refusals::Refusal;
 
 // Whether the two characters at a place are these.

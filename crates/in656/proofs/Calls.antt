@@ -4,8 +4,7 @@ use mathlib.Core.List.{List, []}
 use Prim.Native.Nat.{ℕ}
 use lib.ListN.{length}
 use borrow.Author.Tests.{eq-eqb, ne-eqb}
-use Rattle.reading.specs.Answers.{Outcome}
-use Rattle.writing.specs.Writing.{Write}
+use Rattle.records.specs.Answers.{Outcome, Write}
 use Rattle.master.specs.declared.state.Master.{Master}
 use Rattle.master.specs.Answers as m
 use Rattle.master.specs.Sending.{Behind}

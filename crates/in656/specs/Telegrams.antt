@@ -6,9 +6,9 @@ use lib.Dec.{eqb}
 use lib.ListN.{length}
 use Rattle.records.specs.Refusals.{no}
 use Rattle.lines.specs.Lines.{isLine}
-use Rattle.reading.specs.Answers.{Answer, accepted, refused}
+use Rattle.records.specs.Answers.{Answer, accepted, refused, Write}
 use Rattle.reading.specs.Reading.{readingOf}
-use Rattle.writing.specs.Writing.{Write, writingOf}
+use Rattle.writing.specs.Writing.{writingOf}
 use Rattle.searching.specs.Search.{spanOf}
 use Rattle.blocks.specs.Layout.{filled}
 use Rattle.blocks.specs.Record.{recordLength, recordBytes, recordIn}

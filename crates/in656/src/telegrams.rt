@@ -1,6 +1,6 @@
 // Reading, writing and searching.
 ghost use mathlib.Core.Path.{_≡_};
-ghost use Rattle.reading.specs.Answers.{answerOf};
+ghost use Rattle.records.specs.Answers.{answerOf};
 ghost use Rattle.in656.specs.Telegrams.{filledBy, readCall, writeCall, nextCall};
 use blocks::record::RECORD_LENGTH;
 use blocks::record::put_record;
@@ -8,8 +8,8 @@ use inputs::numbers::byte_or;
 use inputs::numbers::is_typed;
 use inputs::numbers::meaning;
 use lines::lines::is_line;
-use reading::answers::Reading;
 use reading::reading::read;
+use records::answers::Reading;
 use records::refusals::Refusal;
 use results::result::In656Result;
 use results::result::refuse;

@@ -7,8 +7,7 @@ use lib.ListN.{getD}
 use Rattle.records.specs.Refusals.{No}
 use Rattle.records.specs.Records.{typeOf}
 use Rattle.records.specs.declared.records.Record.{Record}
-use Rattle.framing.specs.Answers.{firstFault, good, fails}
-use Rattle.reading.specs.Answers.{Answer, accepted}
+use Rattle.records.specs.Answers.{firstFault, good, fails, Answer, accepted}
 use Rattle.framing.specs.Frame.{frameChecks}
 use Rattle.reading.specs.Reading.{readingOf}
 use Rattle.clock.specs.Counters.{sameNumber, numberIn}

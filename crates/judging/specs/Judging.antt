@@ -6,10 +6,8 @@ use lib.ListN.{getD}
 use Rattle.records.specs.Refusals.{No, refusalOf}
 use Rattle.records.specs.Records.{typeOf}
 use Rattle.records.specs.declared.records.Record.{Record}
-use Rattle.framing.specs.Answers.{Fault, firstFault}
-use Rattle.reading.specs.Answers.{Answer, answerOf}
-use Rattle.framing.specs.Answers as checked
-use Rattle.reading.specs.Answers as w
+use Rattle.records.specs.Answers.{Fault, firstFault, Answer, answerOf}
+use Rattle.records.specs.Answers as w
 use Rattle.framing.specs.Frame.{frameChecks}
 use Rattle.reading.specs.Reading.{readingOf}
 use Rattle.clock.specs.Counters.{sameNumber, numberIn}
@@ -45,8 +43,8 @@ takenOf line sent (w.refused x) = otherKind (w.refused x)
 
 -- ignored when refused 1 to 7
 abbrev pub unlessBad : Fault → Judged → Judged
-unlessBad checked.good judged = judged
-unlessBad (checked.fails x) judged = refused x
+unlessBad w.good judged = judged
+unlessBad (w.fails x) judged = refused x
 
 -- or when the number is another; else by its reading. The line, the number and the type that were sent, and the frame
 unfoldable pub judgeOf : ℕ → ℕ → ℕ → List ℕ → Judged

@@ -1,16 +1,16 @@
 // What a heard frame is to a telegram of a type that was sent on a line with a number (rules M8 to M13).
 ghost use mathlib.Core.Path.{_≡_};
-ghost use Rattle.reading.specs.Answers.{answerOf};
+ghost use Rattle.records.specs.Answers.{answerOf};
 ghost use Rattle.judging.specs.Judging.{judgedOf, answeredBy, takenOf, judgeOf};
 use characters::slices::byte_at;
 use clock::counters::ToSend;
 use clock::counters::number_in;
-use framing::answers::Check;
 use framing::frame::frame_check;
 use masterrules::rules::is_failure;
 use masterrules::rules::permitted_answer;
-use reading::answers::Reading;
 use reading::reading::read;
+use records::answers::Check;
+use records::answers::Reading;
 use records::records::Record;
 use records::records::type_of;
 use records::refusals::Refusal;

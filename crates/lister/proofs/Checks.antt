@@ -9,7 +9,7 @@ use Rattle.laws.specs.Truth.{both, either}
 use Rattle.laws.proofs.Truths.{both-left, both-right}
 use Rattle.characters.specs.Marks.{longest}
 use Rattle.records.specs.Refusals.{no}
-use Rattle.framing.specs.Answers.{good, fails}
+use Rattle.records.specs.Answers.{good, fails}
 use Rattle.listings.specs.Lines.{lineRoom}
 use Rattle.lister.specs.declared.state.Lister.{Lister}
 use Rattle.lister.specs.Lister.{placeFits, inRanges, listFault}

@@ -8,7 +8,7 @@ use Rattle.laws.specs.Truth.{both, either}
 use Rattle.characters.specs.Marks.{longest}
 use Rattle.lines.specs.Lines.{isLine}
 use Rattle.records.specs.Refusals.{no}
-use Rattle.framing.specs.Answers.{Fault, good, fails}
+use Rattle.records.specs.Answers.{Fault, good, fails}
 use Rattle.listings.specs.Lines.{lineRoom}
 use Rattle.lister.specs.Line.{lineNamed}
 use Rattle.lister.specs.declared.state.Lister.{Lister}

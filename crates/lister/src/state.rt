@@ -1,13 +1,13 @@
 // The state of a listing between two turns, what refuses a turn, and what a turn does (rules P1 to P5, P10).
 ghost use mathlib.Core.Path.{_≡_};
-ghost use Rattle.framing.specs.Answers.{faultOf};
+ghost use Rattle.records.specs.Answers.{faultOf};
 ghost use Rattle.lister.specs.Lister.{atFirst, placeFits, listFault, lineFor, lineTask, readTask, taskFor, ended};
 use crate::line::line_named;
 use characters::marks::LONGEST;
 use characters::slices::byte_at;
-use framing::answers::Check;
 use lines::lines::is_line;
 use listings::lines::LINE_ROOM;
+use records::answers::Check;
 use records::refusals::Refusal;
 
 // What a listing wants next: bytes read behind those held, none where the input has ended; the next turn, the output being full; or nothing more.

@@ -2,7 +2,7 @@
 use captures::turn::list;
 use lister::state::Lister;
 use lister::state::Wants;
-use reading::answers::Writing;
+use records::answers::Writing;
 use stdio::input::Got;
 use stdio::input::called_alone;
 use stdio::input::read_more;

@@ -9,8 +9,7 @@ use lib.Seq.{length-take-le, take-at, drop-at, drop-drop}
 use borrow.Author.Tests.{le-leb, lt-leb}
 use Rattle.records.specs.declared.records.Record.{Record}
 use Rattle.records.specs.Refusals.{No, no}
-use Rattle.reading.specs.Answers.{Answer, accepted, refused, written}
-use Rattle.writing.specs.Writing.{Write}
+use Rattle.records.specs.Answers.{Answer, accepted, refused, written, Write}
 use Rattle.text.specs.Numbers.{decimalText}
 use Rattle.items.specs.Items.{refusalText}
 use Rattle.text.specs.Putting.{puts, placed}

@@ -7,9 +7,8 @@ use lib.ListN.{length, drop}
 use Rattle.records.specs.Refusals.{no}
 use Rattle.laws.specs.Text.{codes}
 use Rattle.records.specs.Records.{typeOf}
-use Rattle.reading.specs.Answers.{Answer, accepted, refused, written}
+use Rattle.records.specs.Answers.{Answer, accepted, refused, written, Write}
 use Rattle.characters.specs.Marks.{lf}
-use Rattle.writing.specs.Writing.{Write}
 use Rattle.text.specs.Numbers.{decimalText}
 use Rattle.items.specs.Items.{refusalText}
 

@@ -2,12 +2,12 @@
 ghost use mathlib.Core.Path.{_≡_};
 ghost use Prim.Native.Nat.{_≤_};
 ghost use lib.ListN.{length};
-ghost use Rattle.reading.specs.Answers.{answerOf, outcomeOf};
+ghost use Rattle.records.specs.Answers.{answerOf, outcomeOf};
 ghost use Rattle.text.specs.Putting.{puts};
 ghost use Rattle.listings.specs.Lines.{answerText, answerRoom, linePut};
 use items::items::put_no;
-use reading::answers::Reading;
-use reading::answers::Writing;
+use records::answers::Reading;
+use records::answers::Writing;
 use records::records::type_of;
 use records::refusals::Refusal;
 use records::refusals::number_of;

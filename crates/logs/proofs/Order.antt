@@ -12,7 +12,7 @@ use Rattle.laws.specs.Truth.{either}
 use Rattle.laws.proofs.Passes.{on-test, both-off}
 use Rattle.characters.specs.Marks.{longest}
 use Rattle.records.specs.Refusals.{no}
-use Rattle.framing.specs.Answers.{Fault}
+use Rattle.records.specs.Answers.{Fault}
 use Rattle.logs.specs.declared.marks.Mark.{Mark}
 use Rattle.logs.specs.declared.marks.Mark.the-variants.{Master, Slave, Hit}
 use Rattle.logs.specs.Marks.{markOf, mayHave}

@@ -8,7 +8,7 @@ use native.Mathlib.Nat.{zero-add}
 use lib.ListN.{length, length-append}
 use borrow.Author.Tests.{le-leb, lt-leb, leb-true, eqb-true}
 use Rattle.records.specs.Refusals.{no}
-use Rattle.reading.specs.Answers.{Outcome, written, refused}
+use Rattle.records.specs.Answers.{Outcome, written, refused}
 use Rattle.text.specs.Putting.{puts, placed}
 use Rattle.text.proofs.Puts.{with-room}
 use Rattle.blocks.proofs.Fours.{four-length}

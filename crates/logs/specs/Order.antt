@@ -9,7 +9,7 @@ use lib.ListN.{length, getD}
 use Rattle.laws.specs.Truth.{both, either}
 use Rattle.characters.specs.Marks.{longest}
 use Rattle.records.specs.Refusals.{No, no}
-use Rattle.framing.specs.Answers.{Fault, good, fails}
+use Rattle.records.specs.Answers.{Fault, good, fails}
 use Rattle.logs.specs.Reader.{Found, found, end, refused, recordIn}
 
 -- the first two bytes are these

@@ -5,7 +5,7 @@ use mathlib.Core.List.{List, _++_}
 use lib.Dec.{leb}
 use lib.ListN.{length, drop}
 use Rattle.records.specs.Refusals.{no}
-use Rattle.reading.specs.Answers.{Outcome, written, refused}
+use Rattle.records.specs.Answers.{Outcome, written, refused}
 use Rattle.logs.specs.Marks.{mayHave}
 use Rattle.logs.specs.Records.{LogRecord, head, recordBytes}
 

@@ -2,7 +2,7 @@
 ghost use mathlib.Core.Path.{_≡_};
 ghost use Prim.Native.Nat.{_<_};
 ghost use lib.ListN.{length};
-ghost use Rattle.reading.specs.Answers.{outcomeOf};
+ghost use Rattle.records.specs.Answers.{outcomeOf};
 ghost use Rattle.text.specs.Putting.{puts};
 ghost use Rattle.logs.specs.Records.{logRecord, recordBytes};
 ghost use Rattle.logs.specs.Writer.{writeOf};
@@ -11,7 +11,7 @@ use crate::marks::mark_bytes;
 use crate::marks::may_have;
 use crate::reader::HEAD;
 use blocks::numbers::put_four;
-use reading::answers::Writing;
+use records::answers::Writing;
 use records::refusals::Refusal;
 use text::putting::put_byte;
 use text::putting::put_text;

@@ -17,7 +17,7 @@ use Rattle.records.specs.declared.records.Record.{Record}
 use Rattle.forms.proofs.Found.{each-line}
 use Rattle.packets.specs.Packets.{leadOf, isDecimal, permits, ruled, permitsNumber}
 use Rattle.values.specs.Values.{permitsRecord, textOf, narrow, numberWidth, permittedFrom, numberFits, permitsValue, permitsValues}
-use Rattle.framing.specs.Answers.{good, fails}
+use Rattle.records.specs.Answers.{good, fails}
 use Rattle.clock.specs.Counters.{inRange}
 use Rattle.characters.specs.Marks.{longest}
 use Rattle.masterrules.specs.Rules.{pollOf}

@@ -11,7 +11,7 @@ use Rattle.records.specs.Records.{typeOf}
 use Rattle.records.specs.declared.records.Record.{Record}
 use Rattle.records.specs.declared.refusals.Refusal.{Refusal}
 use Rattle.values.specs.Values.{permitsRecord}
-use Rattle.framing.specs.Answers.{good, fails}
+use Rattle.records.specs.Answers.{good, fails}
 use Rattle.writing.specs.Writing.{sendOf}
 use Rattle.roundtrips.proofs.Trips.{sent-whole}
 use Rattle.clock.specs.Clock.{runOut}

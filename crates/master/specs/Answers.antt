@@ -2,7 +2,7 @@
 use Prim.Native.Nat.{ℕ}
 use Rattle.records.specs.Refusals.{No, refusalOf}
 use Rattle.records.specs.declared.records.Record.{Record}
-use Rattle.reading.specs.Answers.{Answer, answerOf}
+use Rattle.records.specs.Answers.{Answer, answerOf}
 use Rattle.master.specs.declared.answers.Sending as s
 use Rattle.master.specs.declared.answers.Cause as c
 use Rattle.master.specs.declared.answers.Reason as r

@@ -9,7 +9,7 @@ use Rattle.records.specs.Refusals.{no}
 use Rattle.records.specs.Records.{typeOf}
 use Rattle.records.specs.declared.records.Record.{Record}
 use Rattle.values.specs.Values.{permitsRecord}
-use Rattle.framing.specs.Answers.{Fault, good, fails}
+use Rattle.records.specs.Answers.{Fault, good, fails}
 use Rattle.writing.specs.Writing.{telegramOf, sentOf}
 use Rattle.clock.specs.Clock.{runOut}
 use Rattle.masterrules.specs.Rules.{pollOf}

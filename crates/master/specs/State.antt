@@ -11,7 +11,7 @@ use Rattle.records.specs.Records.{typeOf}
 use Rattle.records.specs.declared.records.Record.{Record}
 use Rattle.records.specs.declared.records.Record.the-variants.{Idling}
 use Rattle.values.specs.Values.{permitsRecord}
-use Rattle.framing.specs.Answers.{Fault, good, fails}
+use Rattle.records.specs.Answers.{Fault, good, fails}
 use Rattle.characters.specs.Marks.{longest}
 use Rattle.clock.specs.Counters.{inRange, changedOf}
 use Rattle.masterrules.specs.Times.{operationFits, operationAfter}

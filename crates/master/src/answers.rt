@@ -1,5 +1,5 @@
 // What the master's calls answer (rules M8, M10 to M16).
-use reading::answers::Reading;
+use records::answers::Reading;
 use records::records::Record;
 use records::refusals::Refusal;
 

@@ -1,6 +1,6 @@
 // The master's state by value, its ranges and its start (rules M1, E1, E9, E11).
 ghost use mathlib.Core.Path.{_≡_};
-ghost use Rattle.framing.specs.Answers.{faultOf};
+ghost use Rattle.records.specs.Answers.{faultOf};
 ghost use Rattle.master.specs.Answers.{toldOf};
 ghost use Rattle.master.specs.declared.answers.Answer.the-variants;
 ghost use Rattle.master.specs.State.{sendable, fitsFree, inRanges, callFault, afterSending, withLine, freed, answeredState, answeredWith, startOf};
@@ -8,10 +8,10 @@ use crate::answers::Answer;
 use characters::marks::LONGEST;
 use clock::counters::ToSend;
 use forms::table::by_master;
-use framing::answers::Check;
 use lines::lines::is_line;
 use masterrules::times::operation_after;
 use masterrules::times::operation_fits;
+use records::answers::Check;
 use records::records::Record;
 use records::records::type_of;
 use records::refusals::Refusal;

@@ -9,9 +9,8 @@ use Rattle.records.specs.Refusals.{refusalOf}
 use Rattle.records.specs.Records.{typeOf}
 use Rattle.records.specs.declared.records.Record.{Record}
 use Rattle.records.specs.declared.refusals.Refusal.{Refusal}
-use Rattle.framing.specs.Answers.{good, fails}
-use Rattle.reading.specs.Answers.{answerOf}
-use Rattle.reading.specs.declared.answers.Reading.{Reading}
+use Rattle.records.specs.Answers.{good, fails, answerOf}
+use Rattle.records.specs.declared.answers.Reading.{Reading}
 use Rattle.clock.specs.Clock.{runOut}
 use Rattle.characters.specs.Marks.{longest}
 use Rattle.judging.specs.Judging.{Judged, judgedOf, judgeOf}

@@ -4,7 +4,7 @@ use mathlib.Core.Bool.{true, cond}
 use mathlib.Core.List.{List}
 use lib.ListN.{length}
 use Rattle.records.specs.Records.{typeOf}
-use Rattle.reading.specs.Answers.{Answer}
+use Rattle.records.specs.Answers.{Answer}
 use Rattle.clock.specs.Clock.{runOut}
 use Rattle.judging.specs.Judging.{Judged, judgeOf}
 use Rattle.judging.specs.Judging as j

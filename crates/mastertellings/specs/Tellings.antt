@@ -3,8 +3,8 @@ use mathlib.Core.List.{List, _++_}
 use Prim.Native.Nat.{ℕ}
 use Rattle.laws.specs.Text.{codes}
 use Rattle.records.specs.declared.records.Record.{Record}
-use Rattle.reading.specs.Answers.{Answer}
-use Rattle.reading.specs.Answers as r
+use Rattle.records.specs.Answers.{Answer}
+use Rattle.records.specs.Answers as r
 use Rattle.master.specs.Answers.{Which, Ground, Why, Told}
 use Rattle.master.specs.Answers as t
 use Rattle.items.specs.Items.{refusalText, recordText}

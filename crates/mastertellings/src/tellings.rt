@@ -1,6 +1,6 @@
 // The master's answers.
 ghost use mathlib.Core.Path.{_≡_};
-ghost use Rattle.reading.specs.Answers.{answerOf};
+ghost use Rattle.records.specs.Answers.{answerOf};
 ghost use Rattle.master.specs.Answers.{whichOf, groundOf, whyOf, toldOf};
 ghost use Rattle.text.specs.Putting.{puts};
 ghost use Rattle.mastertellings.specs.Tellings.{whichText, sentText, answeredText, answerText, otherKindText, groundText, givenUpText, whyText, ignoredText, toldText};
@@ -12,7 +12,7 @@ use master::answers::Answer;
 use master::answers::Cause;
 use master::answers::Reason;
 use master::answers::Sending;
-use reading::answers::Reading;
+use records::answers::Reading;
 use records::records::Record;
 use text::putting::put_text;
 

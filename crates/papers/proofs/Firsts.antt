@@ -18,9 +18,9 @@ use Rattle.forms.specs.Forms.{forms, Slot, slotsIn, countOf, slotsOf, widthIn, 
 use Rattle.formrows.specs.declared.rows.Form.{Form}
 use Rattle.forms.proofs.Found.{found-row}
 use Rattle.forms.proofs.Slots.{slots-end, width-here}
-use Rattle.framing.specs.declared.answers.Spot.{Spot}
-use Rattle.framing.specs.declared.answers.Spot.the-variants.{Nowhere, At}
-use Rattle.reading.specs.Answers.{Answer, refused}
+use Rattle.records.specs.declared.answers.Spot.{Spot}
+use Rattle.records.specs.declared.answers.Spot.the-variants.{Nowhere, At}
+use Rattle.records.specs.Answers.{Answer, refused}
 use Rattle.framing.specs.Frame.{fieldOf, frameChecks}
 use Rattle.reading.specs.Field.{rowIn, outside, wrongLetter, badValue, misshapen, fieldChecks}
 use Rattle.reading.specs.Reading.{checks, readingOf}

@@ -14,10 +14,9 @@ use Rattle.forms.specs.Forms.{forms, onLine, lookIn, formOf, slotsIn, countOf, 
 use Rattle.packets.specs.Packets.{leadOf, isDecimal, permits, ruled, permitsNumber}
 use Rattle.values.specs.Values.{valueOf, permittedFrom, permitted, narrow, numberFits}
 use Rattle.records.specs.declared.records.Record.{Record}
-use Rattle.framing.specs.declared.answers.Spot.{Spot}
-use Rattle.framing.specs.declared.answers.Spot.the-variants.{Nowhere, At}
-use Rattle.framing.specs.Answers.{Fault, good, fails, firstFault}
-use Rattle.reading.specs.Answers.{accepted, refused, unless}
+use Rattle.records.specs.declared.answers.Spot.{Spot}
+use Rattle.records.specs.declared.answers.Spot.the-variants.{Nowhere, At}
+use Rattle.records.specs.Answers.{Fault, good, fails, firstFault, accepted, refused, unless}
 use Rattle.framing.specs.Frame.{countText, summedOf, fieldOf, frameChecks}
 use Rattle.reading.specs.Field.{outside, wrongLetter, badValue, misshapen, fieldChecks}
 use Rattle.reading.specs.Reading.{checks, readingOf}

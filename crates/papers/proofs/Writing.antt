@@ -16,7 +16,8 @@ use Rattle.lines.specs.Lines.{isLine, lineOf}
 use Rattle.forms.specs.Forms.{forms, onLine, lookIn, formOf, typeRow, slotsIn, countOf, slotsOf, widthIn, widthOf}
 use Rattle.packets.specs.Packets.{leadOf, isDecimal, permits, ruled, permitsNumber}
 use Rattle.values.specs.Values.{textOf, narrow, numberWidth, permittedFrom, numberFits, permitsValue, permitsValues, rowOf, permitsRecord, lengthOf}
-use Rattle.writing.specs.Writing.{Write, writingOf, telegramOf}
+use Rattle.writing.specs.Writing.{writingOf, telegramOf}
+use Rattle.records.specs.Answers.{Write}
 use Rattle.roundtrips.proofs.Trips.{telegram-length}
 use Rattle.papers.specs.Writing.{RefusedInOrder, OldBytes, KeepsBehind}
 

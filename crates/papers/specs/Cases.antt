@@ -9,7 +9,7 @@ use Rattle.laws.specs.Truth.{All}
 use Rattle.laws.specs.Text.{codes}
 use Rattle.characters.specs.Checksum.{checksumOf}
 use Rattle.records.specs.declared.records.Record.the-variants.{Approved, Rejected, Request, Idling, Stop, Train, TrainData}
-use Rattle.reading.specs.Answers.{Answer, accepted, refused}
+use Rattle.records.specs.Answers.{Answer, accepted, refused}
 use Rattle.characters.specs.Marks.{lf, cr}
 use Rattle.reading.specs.Reading.{readingOf}
 

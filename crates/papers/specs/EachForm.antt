@@ -15,7 +15,7 @@ use Rattle.records.specs.declared.records.Record.the-variants.{Train, TrainData
 use Rattle.lines.specs.Lines.{lineNumbers}
 use Rattle.forms.specs.Forms.{forms, onLine}
 use Rattle.formrows.specs.declared.rows.Form.{Form}
-use Rattle.reading.specs.Answers.{Answer, accepted}
+use Rattle.records.specs.Answers.{Answer, accepted}
 use Rattle.reading.specs.Reading.{readingOf}
 use Rattle.papers.specs.Cases.{framed}
 

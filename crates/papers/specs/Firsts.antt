@@ -12,7 +12,7 @@ use Rattle.characters.specs.Characters.{inSet}
 use Rattle.forms.specs.Forms.{forms, onLine, countOf, widthOf}
 use Rattle.formrows.specs.declared.rows.Form.{Form}
 use Rattle.values.specs.Values.{permitted}
-use Rattle.reading.specs.Answers.{accepted, refused}
+use Rattle.records.specs.Answers.{accepted, refused}
 use Rattle.reading.specs.Field.{rowIn}
 use Rattle.reading.specs.Reading.{readingOf}
 

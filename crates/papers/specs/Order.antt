@@ -10,9 +10,9 @@ use Rattle.laws.specs.Truth.{oneOf, every, All}
 use Rattle.laws.specs.Text.{codes}
 use Rattle.lines.specs.Lines.{isLine}
 use Rattle.records.specs.declared.records.Record.{Record}
-use Rattle.framing.specs.declared.answers.Spot.{Spot}
-use Rattle.framing.specs.declared.answers.Spot.the-variants.{Nowhere, At}
-use Rattle.reading.specs.Answers.{accepted, refused}
+use Rattle.records.specs.declared.answers.Spot.{Spot}
+use Rattle.records.specs.declared.answers.Spot.the-variants.{Nowhere, At}
+use Rattle.records.specs.Answers.{accepted, refused}
 use Rattle.characters.specs.Marks.{lf, cr}
 use Rattle.reading.specs.Reading.{checks, readingOf}
 use Rattle.papers.specs.Cases.{framed}

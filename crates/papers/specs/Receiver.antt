@@ -8,7 +8,7 @@ use lib.Dec.{ltb}
 use lib.ListN.{length, getD}
 use Rattle.characters.specs.Checksum.{total, checksumOf, checkText}
 use Rattle.records.specs.declared.records.Record.{Record}
-use Rattle.reading.specs.Answers.{accepted}
+use Rattle.records.specs.Answers.{accepted}
 use Rattle.framing.specs.Frame.{summedOf, isTwo}
 use Rattle.reading.specs.Reading.{readingOf}
 

@@ -7,8 +7,8 @@ use lib.ListN.{length, getD, replicate}
 use Rattle.records.specs.Refusals.{no}
 use Rattle.records.specs.declared.records.Record.{Record}
 use Rattle.records.specs.declared.records.Record.the-variants.{Approved, Test, Fault, Position}
-use Rattle.reading.specs.Answers.{written, refused}
-use Rattle.writing.specs.Writing.{Write, writingOf}
+use Rattle.records.specs.Answers.{written, refused, Write}
+use Rattle.writing.specs.Writing.{writingOf}
 
 -- a record with its number on a line, an output, and the number of the refusal
 pub record Attempt : Type 0 where

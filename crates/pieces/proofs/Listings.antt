@@ -10,11 +10,10 @@ use lib.ListN.{length, drop, take-append-drop, length-append, length-drop, drop-
 use lib.Seq.{take-all, drop-drop}
 use borrow.Rule.Slice.PartMut.{putMid, midOf}
 use Rattle.records.specs.Refusals.{no}
-use Rattle.reading.specs.Answers.{Outcome, written, refused, answerOf, outcomeOf}
+use Rattle.records.specs.Answers.{Outcome, written, refused, answerOf, outcomeOf, Write}
 use Rattle.reading.specs.Reading.{readingOf}
-use Rattle.reading.specs.declared.answers.Reading.{Reading}
-use Rattle.reading.specs.declared.answers.Writing.{Writing}
-use Rattle.writing.specs.Writing.{Write}
+use Rattle.records.specs.declared.answers.Reading.{Reading}
+use Rattle.records.specs.declared.answers.Writing.{Writing}
 use Rattle.searching.specs.declared.search.Span.{Span}
 use Rattle.searching.specs.declared.search.Span.the-variants.{Found, Nothing}
 use Rattle.searching.specs.Search.{spanOf, partOf}

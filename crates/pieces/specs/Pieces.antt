@@ -5,7 +5,7 @@ use mathlib.Core.List.{List, [], _∷_, _++_}
 use lib.Dec.{leb}
 use lib.ListN.{length}
 use Rattle.characters.specs.Marks.{unfinished}
-use Rattle.reading.specs.Answers.{Outcome, written, refused}
+use Rattle.records.specs.Answers.{Outcome, written, refused}
 use Rattle.reading.specs.Reading.{readingOf}
 use Rattle.searching.specs.declared.search.Span.{Span}
 use Rattle.searching.specs.declared.search.Span.the-variants.{Found, Nothing}

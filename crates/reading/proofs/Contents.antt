@@ -11,10 +11,9 @@ use Rattle.lines.specs.Lines.{isLine}
 use Rattle.forms.specs.Forms.{formOf, slotsOf}
 use Rattle.records.specs.Records.{recordOf}
 use Rattle.forms.specs.declared.table.Looked.{Looked}
-use Rattle.framing.specs.declared.answers.Spot.{Spot}
-use Rattle.framing.specs.declared.answers.Spot.the-variants.{Nowhere, At}
-use Rattle.framing.specs.Answers.{Fault, good, fails, firstFault}
-use Rattle.reading.specs.Answers.{Answer, accepted, refused, unless}
+use Rattle.records.specs.declared.answers.Spot.{Spot}
+use Rattle.records.specs.declared.answers.Spot.the-variants.{Nowhere, At}
+use Rattle.records.specs.Answers.{Fault, good, fails, firstFault, Answer, accepted, refused, unless}
 use Rattle.framing.specs.Frame.{needs, fieldOf, frameChecks}
 use Rattle.reading.specs.Field.{rowIn, outside, misshapen, badValue, valuesIn, fieldChecks}
 use Rattle.reading.specs.Reading.{inForm, recordIn, contentsOf, checks, readingOf}

@@ -5,7 +5,7 @@ use lib.ListN.{getD}
 use Rattle.forms.specs.Forms.{slotsOf, formOf}
 use Rattle.forms.specs.declared.table.Looked.{Looked}
 use Rattle.framing.specs.Frame.{needs, fieldOf}
-use Rattle.framing.specs.declared.answers.Spot.{Spot}
+use Rattle.records.specs.declared.answers.Spot.{Spot}
 pub use Rattle.datafields.specs.Field.{behind, dataBehind, packetValue}
 unfoldable pub use Rattle.datafields.specs.Field.{dataOf, outside, wrongLetter, badValue, valuesIn, misshapen}
 

@@ -10,9 +10,8 @@ use Rattle.forms.specs.Forms.{slotsOf}
 use Rattle.records.specs.Records.{recordOf}
 use Rattle.records.specs.declared.records.Record.{Record}
 use Rattle.formrows.specs.declared.rows.Form.{Form}
-use Rattle.framing.specs.declared.answers.Spot.{Spot}
-use Rattle.framing.specs.Answers.{firstFault}
-use Rattle.reading.specs.Answers.{Answer, accepted, refused, unless}
+use Rattle.records.specs.declared.answers.Spot.{Spot}
+use Rattle.records.specs.Answers.{firstFault, Answer, accepted, refused, unless}
 use Rattle.framing.specs.Frame.{fieldOf, frameChecks}
 use Rattle.reading.specs.Field.{rowIn, valuesIn, misshapen, badValue, fieldChecks}
 

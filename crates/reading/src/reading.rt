@@ -1,9 +1,8 @@
 // Reading a telegram (rules W1, W2): 15 before all, then checks 1 to 11 in order, then its record and number.
 ghost use mathlib.Core.Path.{_≡_};
 ghost use Prim.Native.Nat.{_-_};
-ghost use Rattle.reading.specs.Answers.{answerOf};
+ghost use Rattle.records.specs.Answers.{answerOf};
 ghost use Rattle.reading.specs.Reading.{inForm, contentsOf, readingOf};
-use crate::answers::Reading;
 use characters::slices::byte_at;
 use characters::slices::less;
 use characters::slices::part;
@@ -13,10 +12,11 @@ use datafields::field::values_in;
 use datafields::field::wrong_form;
 use formrows::rows::Form;
 use forms::table::form_of;
-use framing::answers::Check;
-use framing::answers::Spot;
 use framing::frame::frame_check;
 use lines::lines::is_line;
+use records::answers::Check;
+use records::answers::Reading;
+use records::answers::Spot;
 use records::records::record_of;
 use records::refusals::Refusal;
 

@@ -1,10 +1,14 @@
--- The paper's number and place tell the refusals apart. Assumes nothing.
+-- The paper's number and place tell the refusals apart, and the answers that hold one. Assumes nothing.
 use mathlib.Core.Path.{_≡_, refl, sym, ap, _∙_}
 use mathlib.Core.Bool.{cond}
 use lib.Dec.{eqb}
 use Rattle.records.specs.Refusals.{No, refusalOf, OneRefusal}
 use Rattle.records.specs.declared.refusals.Refusal.{Refusal}
 use Rattle.records.specs.declared.refusals.Refusal.the-variants.{Short, Long, NoStart, Count, NoEnd, Checksum, Number, Kind, Character, Form, Value, NotSent, Range, NoRoom, State, Busy, Full, Mark, Length, CutOff}
+use Rattle.records.specs.declared.answers.Check as c
+use Rattle.records.specs.declared.answers.Reading as r
+use Rattle.records.specs.declared.answers.Writing as w
+use Rattle.records.specs.Answers.{OneCheck, OneReading, OneWriting}
 
 -- the refusal of a number and place
 abbrev pub backOf : No → Refusal
@@ -55,3 +59,22 @@ refusal-back (CutOff place) = refl
 -- so two refusals of one number and place are one
 pub one-refusal : OneRefusal
 one-refusal x y h = sym (refusal-back x) ∙ (ap backOf h ∙ refusal-back y)
+
+-- a promise of a row of checks, of reading or of writing allows one answer only
+pub one-check : OneCheck
+one-check c.the-variants.Good c.the-variants.Good h = refl
+one-check c.the-variants.Good (c.the-variants.Fails y) h = cc
+one-check (c.the-variants.Fails x) c.the-variants.Good h = cc
+one-check (c.the-variants.Fails x) (c.the-variants.Fails y) h = let e : x ≡ y = one-refusal x y (cc) in cc
+
+pub one-reading : OneReading
+one-reading (r.the-variants.Accepted x m) (r.the-variants.Accepted y n) h = cc
+one-reading (r.the-variants.Accepted x m) (r.the-variants.Refused y) h = cc
+one-reading (r.the-variants.Refused x) (r.the-variants.Accepted y n) h = cc
+one-reading (r.the-variants.Refused x) (r.the-variants.Refused y) h = let e : x ≡ y = one-refusal x y (cc) in cc
+
+pub one-writing : OneWriting
+one-writing (w.the-variants.Written m) (w.the-variants.Written n) h = cc
+one-writing (w.the-variants.Written m) (w.the-variants.Refused y) h = cc
+one-writing (w.the-variants.Refused x) (w.the-variants.Written n) h = cc
+one-writing (w.the-variants.Refused x) (w.the-variants.Refused y) h = let e : x ≡ y = one-refusal x y (cc) in cc

@@ -1,7 +1,7 @@
 // The replay program (rules Q9 to Q14): runs a fresh desk of a line over the log of standard input. It reads, calls a turn of the replay, and writes.
 use characters::slices::part;
 use lister::state::Wants;
-use reading::answers::Writing;
+use records::answers::Writing;
 use replaying::state::Replayer;
 use replaying::turn::open;
 use replaying::turn::replay;

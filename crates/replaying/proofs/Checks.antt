@@ -8,7 +8,7 @@ use borrow.Author.Tests.{le-ltb, ltb-false}
 use Rattle.laws.proofs.Passes.{on-test}
 use Rattle.laws.proofs.Truths.{clash}
 use Rattle.characters.specs.Marks.{longest}
-use Rattle.framing.specs.Answers.{Fault, good, fails}
+use Rattle.records.specs.Answers.{Fault, good, fails}
 use Rattle.logs.specs.Records.{head}
 use Rattle.replays.specs.Texts.{rowRoom}
 use Rattle.replaying.specs.State.{turnFault}

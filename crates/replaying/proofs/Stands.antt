@@ -10,8 +10,7 @@ use lib.ListN.{length, take, drop, length-append}
 use lib.Seq.{take-at, length-take-le}
 use borrow.Author.Tests.{eqb-true, eqb-false}
 use Rattle.laws.proofs.Passes.{on-test}
-use Rattle.framing.specs.Answers.{good}
-use Rattle.reading.specs.Answers.{written}
+use Rattle.records.specs.Answers.{good, written}
 use Rattle.text.specs.Putting.{placed}
 use Rattle.listings.specs.Lines.{wrapped}
 use Rattle.listings.proofs.Puts.{put-take}

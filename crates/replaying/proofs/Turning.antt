@@ -8,8 +8,7 @@ use lib.ListN.{length, take, getD, length-take}
 use borrow.Rule.Slice.PartMut.{midOf, putMid}
 use borrow.Author.Tests.{eq-eqb, ne-eqb}
 use Rattle.records.specs.Refusals.{No}
-use Rattle.framing.specs.Answers.{good, fails}
-use Rattle.reading.specs.Answers.{Outcome, written, refused}
+use Rattle.records.specs.Answers.{good, fails, Outcome, written, refused}
 use Rattle.text.specs.Putting.{puts, placed}
 use Rattle.listings.specs.Lines.{wrapped}
 use Rattle.tails.specs.Tails.{tailPut}

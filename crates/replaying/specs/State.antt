@@ -5,7 +5,7 @@ use lib.Dec.{ltb}
 use Rattle.laws.specs.Truth.{either}
 use Rattle.characters.specs.Marks.{longest}
 use Rattle.records.specs.Refusals.{no}
-use Rattle.framing.specs.Answers.{Fault, good, fails}
+use Rattle.records.specs.Answers.{Fault, good, fails}
 use Rattle.desk.specs.State.{startOf}
 use Rattle.lister.specs.declared.state.Wants.{Wants}
 use Rattle.lister.specs.declared.state.Wants.the-variants.{Read, Again, End}

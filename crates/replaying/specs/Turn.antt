@@ -4,8 +4,7 @@ use mathlib.Core.List.{List}
 use Prim.Native.Nat.{ℕ, _+_, _-_}
 use lib.Dec.{eqb}
 use lib.ListN.{length, take, getD}
-use Rattle.framing.specs.Answers.{Fault, good, fails}
-use Rattle.reading.specs.Answers.{Outcome, written, refused}
+use Rattle.records.specs.Answers.{Fault, good, fails, Outcome, written, refused}
 use Rattle.text.specs.Putting.{puts, placed}
 use Rattle.listings.specs.Lines.{wrapped}
 use Rattle.tails.specs.Tails.{tailPut}

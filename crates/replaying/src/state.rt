@@ -1,12 +1,12 @@
 // The state of a replay between two turns, and what refuses a turn (rules Q9, Q14).
 ghost use mathlib.Core.Path.{_≡_};
-ghost use Rattle.framing.specs.Answers.{faultOf};
+ghost use Rattle.records.specs.Answers.{faultOf};
 ghost use Rattle.replaying.specs.State.{begunOn, turnFault, wantsFor};
 use characters::marks::LONGEST;
 use desk::state::Desk;
-use framing::answers::Check;
 use lister::state::Wants;
 use logs::reader::HEAD;
+use records::answers::Check;
 use records::refusals::Refusal;
 use replays::part::ROW_ROOM;
 use replays::part::Stop;

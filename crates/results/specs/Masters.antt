@@ -1,7 +1,7 @@
 -- The results of the master's calls, as the header's tables say them (include/in656.h). Assumes nothing.
 use Prim.Native.Nat.{ℕ}
-use Rattle.reading.specs.Answers.{Answer, accepted}
-use Rattle.reading.specs.Answers as a
+use Rattle.records.specs.Answers.{Answer, accepted}
+use Rattle.records.specs.Answers as a
 use Rattle.master.specs.Answers.{Which, offered, again, poll, Ground, silence, rejected, Why, free, runOut, otherNumber, Told, nothing, sent, answered, otherKind, givenUp, ignored}
 use Rattle.master.specs.Answers as m
 use Rattle.results.specs.declared.result.In656Result.{In656Result}

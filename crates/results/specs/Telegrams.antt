@@ -1,7 +1,7 @@
 -- The results of reading, writing, gathering and searching, as the header's tables say them (include/in656.h). Assumes nothing.
 use Prim.Native.Nat.{ℕ, _-_}
-use Rattle.reading.specs.Answers.{Answer, accepted, Outcome, written}
-use Rattle.reading.specs.Answers as a
+use Rattle.records.specs.Answers.{Answer, accepted, Outcome, written}
+use Rattle.records.specs.Answers as a
 use Rattle.gathering.specs.Gather.{Cut, nothing, telegram}
 use Rattle.gathering.specs.Gather as g
 use Rattle.searching.specs.declared.search.Span.{Span}

@@ -1,6 +1,6 @@
 // The results of the master's calls.
 ghost use mathlib.Core.Path.{_≡_};
-ghost use Rattle.reading.specs.Answers.{answerOf};
+ghost use Rattle.records.specs.Answers.{answerOf};
 ghost use Rattle.master.specs.Answers.{whichOf, groundOf, whyOf, toldOf};
 ghost use Rattle.results.specs.Masters.{sendingDetail, causeDetail, ignoredResult, otherResult, toldResult};
 use crate::result::In656Result;
@@ -10,7 +10,7 @@ use master::answers::Answer;
 use master::answers::Cause;
 use master::answers::Reason;
 use master::answers::Sending;
-use reading::answers::Reading;
+use records::answers::Reading;
 
 // Outcome.
 pub const NOTHING: u32 = 1;

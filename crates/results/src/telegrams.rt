@@ -1,6 +1,6 @@
 // The results of reading, writing, gathering and searching.
 ghost use mathlib.Core.Path.{_≡_};
-ghost use Rattle.reading.specs.Answers.{answerOf, outcomeOf};
+ghost use Rattle.records.specs.Answers.{answerOf, outcomeOf};
 ghost use Rattle.gathering.specs.Gather.{gatheredOf};
 ghost use Rattle.results.specs.Telegrams.{readResult, writeResult, cutResult, spanResult};
 use crate::result::In656Result;
@@ -9,8 +9,8 @@ use crate::result::refuse;
 use crate::result::say;
 use characters::slices::less;
 use gathering::gather::Gathered;
-use reading::answers::Reading;
-use reading::answers::Writing;
+use records::answers::Reading;
+use records::answers::Writing;
 use searching::search::Span;
 
 // Outcome of a gathered item and of a search: there is a telegram.

@@ -8,11 +8,10 @@ use Rattle.records.specs.Refusals.{no}
 use Rattle.laws.specs.Truth.{All}
 use Rattle.laws.proofs.Truths.{clash}
 use Rattle.records.specs.declared.records.Record.{Record}
-use Rattle.framing.specs.Answers.{Fault, good, fails, firstFault}
-use Rattle.reading.specs.Answers.{accepted, refused, unless}
+use Rattle.records.specs.Answers.{Fault, good, fails, firstFault, accepted, refused, unless}
 use Rattle.framing.specs.Frame.{needs}
-use Rattle.framing.specs.declared.answers.Spot.{Spot}
-use Rattle.framing.specs.declared.answers.Spot.the-variants.{Nowhere, At}
+use Rattle.records.specs.declared.answers.Spot.{Spot}
+use Rattle.records.specs.declared.answers.Spot.the-variants.{Nowhere, At}
 
 -- none of the checks finds a fault
 abbrev pub Faultless : List Spot → Type 0

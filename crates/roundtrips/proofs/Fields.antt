@@ -16,7 +16,7 @@ use Rattle.lines.specs.Lines.{isLine}
 use Rattle.forms.specs.Forms.{Slot, widthIn}
 use Rattle.values.specs.Values.{narrow, textOf, permitted, permitsValue, permitsValues}
 use Rattle.reading.specs.Field.{dataOf, behind, dataBehind, packetValue, outside, wrongLetter, badValue, valuesIn}
-use Rattle.framing.specs.declared.answers.Spot.the-variants.{Nowhere}
+use Rattle.records.specs.declared.answers.Spot.the-variants.{Nowhere}
 use Rattle.roundtrips.proofs.Rows.{noSlot, narrowSlot}
 use Rattle.roundtrips.proofs.Faults.{no-fault}
 use Rattle.roundtrips.proofs.Values.{text-length, text-permitted, text-value, permitted-set, value-text, value-permitted}

@@ -15,7 +15,7 @@ use Rattle.records.specs.declared.records.Record.{Record}
 use Rattle.reading.specs.Field.{rowIn, dataOf, outside, valuesIn}
 use Rattle.reading.specs.Reading.{recordIn}
 use Rattle.writing.specs.Writing.{telegramOf}
-use Rattle.framing.specs.declared.answers.Spot.the-variants.{Nowhere}
+use Rattle.records.specs.declared.answers.Spot.the-variants.{Nowhere}
 use Rattle.roundtrips.proofs.Rows.{Row, row}
 use Rattle.roundtrips.proofs.Fields.{Clear, set-inside, data-length, data-first, data-letters, data-set, data-permitted, data-values}
 use Rattle.roundtrips.proofs.Records.{permitted-found, permitted-line, permitted-values}

@@ -7,7 +7,7 @@ use lib.ListN.{length, drop}
 use Rattle.lines.specs.Lines.{isLine}
 use Rattle.values.specs.Values.{permitsRecord, lengthOf}
 use Rattle.records.specs.declared.records.Record.{Record}
-use Rattle.reading.specs.Answers.{accepted, written}
+use Rattle.records.specs.Answers.{accepted, written}
 use Rattle.reading.specs.Reading.{readingOf}
 use Rattle.writing.specs.Writing.{telegramOf, writingOf, sentOf, sendOf}
 

@@ -15,10 +15,10 @@ use Rattle.records.specs.Records.{typeOf, valuesOf}
 use Rattle.values.specs.Values.{rowOf, permitsRecord, lengthOf}
 use Rattle.records.specs.declared.records.Record.{Record}
 use Rattle.forms.specs.declared.table.Looked.{Looked}
-use Rattle.reading.specs.Answers.{written, refused}
+use Rattle.records.specs.Answers.{written, refused, Write}
 use Rattle.framing.specs.Frame.{frameOf}
 use Rattle.reading.specs.Field.{dataOf}
-use Rattle.writing.specs.Writing.{Write, telegramOf, writingOf}
+use Rattle.writing.specs.Writing.{telegramOf, writingOf}
 
 small : {n : ℕ} → n ≤ 1 → n < 2
 small h = omega arith

@@ -11,17 +11,13 @@ use Rattle.forms.specs.Forms.{slotsOf}
 use Rattle.records.specs.Records.{typeOf, valuesOf}
 use Rattle.values.specs.Values.{rowOf, permitsRecord, lengthOf}
 use Rattle.records.specs.declared.records.Record.{Record}
-use Rattle.reading.specs.Answers.{Outcome, written, refused}
+use Rattle.records.specs.Answers.{Write, written, refused}
 use Rattle.framing.specs.Frame.{frameOf}
 use Rattle.reading.specs.Field.{dataOf}
 
 -- the telegram of a record with its number on a line
 unfoldable pub telegramOf : ℕ → Record → ℕ → List ℕ
 telegramOf line rec number = frameOf (typeOf rec) number (dataOf (slotsOf (rowOf line rec .form)) (valuesOf rec))
-
--- the outcome, and the output behind it
-abbrev pub Write : Type 0
-Write = Outcome × List ℕ
 
 -- 15, then 12, 13, 14; a refused call leaves the output; what lies behind the telegram keeps its old bytes
 unfoldable pub writingOf : ℕ → Record → ℕ → List ℕ → Write

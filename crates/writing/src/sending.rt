@@ -2,7 +2,7 @@
 ghost use mathlib.Core.Path.{_≡_};
 ghost use Rattle.writing.specs.Writing.{sendOf};
 use crate::writing::write;
-use reading::answers::Writing;
+use records::answers::Writing;
 use records::records::Record;
 
 // Writes a record's telegram; the number of its bytes, 0 where writing refuses.

@@ -11,8 +11,8 @@ use Rattle.laws.proofs.Passes.{on-test}
 use borrow.Author.Tests.{eqb-true, eqb-false}
 use Rattle.records.specs.declared.records.Record.the-variants.{Rejected}
 use Rattle.records.specs.Refusals.{No}
-use Rattle.reading.specs.Answers.{accepted}
-use Rattle.reading.specs.Answers as w
+use Rattle.records.specs.Answers.{accepted}
+use Rattle.records.specs.Answers as w
 use Rattle.reading.specs.Reading.{readingOf}
 use Rattle.writing.specs.Writing.{sentOf}
 use Rattle.roundtrips.proofs.Trips.{written-reads}

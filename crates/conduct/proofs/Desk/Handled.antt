@@ -19,8 +19,8 @@ use Rattle.forms.proofs.Found.{each-line}
 use Rattle.records.specs.Refusals.{No}
 use Rattle.records.specs.Records.{typeOf}
 use Rattle.records.specs.declared.records.Record.{Record}
-use Rattle.reading.specs.Answers.{Answer, accepted}
-use Rattle.reading.specs.Answers as w
+use Rattle.records.specs.Answers.{Answer, accepted}
+use Rattle.records.specs.Answers as w
 use Rattle.reading.specs.Reading.{readingOf}
 use Rattle.writing.specs.Writing.{telegramOf, sentOf}
 use Rattle.clock.specs.Counters.{isNumber, numberIn}

@@ -12,7 +12,7 @@ use Rattle.laws.proofs.Passes.{on-test}
 use Rattle.lines.specs.Lines.{isLine}
 use Rattle.records.specs.declared.records.Record.{Record}
 use Rattle.values.specs.Values.{permitsRecord}
-use Rattle.reading.specs.Answers as w
+use Rattle.records.specs.Answers as w
 use Rattle.writing.specs.Writing.{telegramOf}
 use Rattle.roundtrips.proofs.Trips.{written-reads}
 use Rattle.deciding.specs.Deciding.{What, request, poll, other}

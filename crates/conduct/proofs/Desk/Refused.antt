@@ -5,7 +5,7 @@ use mathlib.Core.List.{List}
 use Prim.Native.Nat.{ℕ}
 use lib.Dec.{leb, ltb}
 use lib.ListN.{length}
-use Rattle.framing.specs.Answers.{Fault, good, fails}
+use Rattle.records.specs.Answers.{Fault, good, fails}
 use Rattle.records.specs.Refusals.{no}
 use Rattle.characters.specs.Marks.{longest}
 use Rattle.deciding.specs.Deciding.{Ruling}

@@ -11,8 +11,8 @@ use Rattle.laws.specs.Truth.{from}
 use Rattle.laws.proofs.Truths.{clash, both-left}
 use Rattle.laws.proofs.Passes.{on-test}
 use Rattle.records.specs.Refusals.{No}
-use Rattle.reading.specs.Answers.{Answer, accepted}
-use Rattle.reading.specs.Answers as w
+use Rattle.records.specs.Answers.{Answer, accepted}
+use Rattle.records.specs.Answers as w
 use Rattle.reading.specs.Reading.{readingOf}
 use Rattle.writing.specs.Writing.{sentOf}
 use Rattle.characters.specs.Marks.{longest}

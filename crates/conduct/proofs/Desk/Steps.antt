@@ -16,7 +16,7 @@ use Rattle.records.specs.Refusals.{No, no}
 use Rattle.records.specs.Records.{typeOf}
 use Rattle.records.specs.declared.records.Record.{Record}
 use Rattle.values.specs.Values.{permitsRecord}
-use Rattle.framing.specs.Answers.{Fault, good, fails}
+use Rattle.records.specs.Answers.{Fault, good, fails}
 use Rattle.characters.specs.Marks.{longest}
 use Rattle.deciding.specs.Deciding.{What, Ruling, answersWith}
 use Rattle.deciding.specs.Deciding as r

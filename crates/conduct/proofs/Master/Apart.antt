@@ -1,8 +1,8 @@
 -- The paper's numbers and values tell the master's answers apart (rule G3). Assumes nothing.
 use mathlib.Core.Path.{_≡_, refl, sym, ap, _∙_}
-use Rattle.reading.specs.Answers.{Answer, accepted, answerOf}
-use Rattle.reading.specs.Answers as w
-use Rattle.reading.specs.declared.answers.Reading as g
+use Rattle.records.specs.Answers.{Answer, accepted, answerOf}
+use Rattle.records.specs.Answers as w
+use Rattle.records.specs.declared.answers.Reading as g
 use Rattle.master.specs.Answers.{Which, offered, again, poll, whichOf, Ground, silence, rejected, groundOf}
 use Rattle.master.specs.Answers.{Why, free, runOut, otherNumber, whyOf, Told, nothing, sent, answered, otherKind, givenUp, ignored, toldOf}
 use Rattle.master.specs.declared.answers.Sending as s

@@ -29,8 +29,7 @@ use Rattle.masterhearing.specs.Hearing.{settledOf, judged, hearOf}
 use Rattle.master.proofs.Ranges.{passed, lined, sendable-both, poll-sendable}
 use Rattle.master.proofs.Sends.{offer-passed}
 use Rattle.conduct.specs.Master.Calls.{Call, offers, ticks, hears, callTime, outputOf, after, FirstSending, offered, polled, lineAfter}
-use Rattle.framing.specs.Answers as checked
-use Rattle.reading.specs.Answers as w
+use Rattle.records.specs.Answers as w
 use Rattle.master.specs.Answers as t
 
 -- an answer of a call that changes nothing: refused, but not 15; nothing; ignored
@@ -51,7 +50,7 @@ rejects (w.refused x) = false
 
 -- what a call brings that ends a telegram: a frame that checks 1 to 7 do not refuse and that is no N with 1 or 2
 pub data Brings (m : Master) : Call → Type 0 where
-  brings : {at : ℕ} {frame out : List ℕ} → checked.firstFault 1 (frameChecks frame) ≡ checked.good → rejects (readingOf (m .line) frame) ≡ false → Brings m (hears at frame out)
+  brings : {at : ℕ} {frame out : List ℕ} → w.firstFault 1 (frameChecks frame) ≡ w.good → rejects (readingOf (m .line) frame) ≡ false → Brings m (hears at frame out)
 
 -- a frame that ends the telegram
 abbrev Ending : Judged → Type 0
@@ -75,14 +74,14 @@ module _ (line number sent : ℕ) (frame : List ℕ) where
   ending-reading (w.accepted rec n) e = ending-answer rec n e
   ending-reading (w.refused x) e = refl
 
-  ending : Ending (judgeOf line number sent frame) → (checked.firstFault 1 (frameChecks frame) ≡ checked.good) × (rejects (readingOf line frame) ≡ false)
+  ending : Ending (judgeOf line number sent frame) → (w.firstFault 1 (frameChecks frame) ≡ w.good) × (rejects (readingOf line frame) ≡ false)
   unfolding judgeOf
-  ending e = go (checked.firstFault 1 (frameChecks frame)) (sameNumber number (numberIn (getD frame 4 0))) e
+  ending e = go (w.firstFault 1 (frameChecks frame)) (sameNumber number (numberIn (getD frame 4 0))) e
     where
-      go : (f : checked.Fault) (b : Bool) → Ending (unlessBad f (cond b (takenOf line sent (readingOf line frame)) j.otherNumber)) → (f ≡ checked.good) × (rejects (readingOf line frame) ≡ false)
-      go checked.good true e = (refl, ending-reading (readingOf line frame) e)
-      go checked.good false e = absurd e
-      go (checked.fails x) b e = absurd e
+      go : (f : w.Fault) (b : Bool) → Ending (unlessBad f (cond b (takenOf line sent (readingOf line frame)) j.otherNumber)) → (f ≡ w.good) × (rejects (readingOf line frame) ≡ false)
+      go w.good true e = (refl, ending-reading (readingOf line frame) e)
+      go w.good false e = absurd e
+      go (w.fails x) b e = absurd e
 
 -- what a call can do to a state in its ranges
 pub data Does (m : Master) (call : Call) : Behind → Type 0 where
@@ -102,31 +101,31 @@ split P true f g = f refl
 split P false f g = g refl
 
 -- refused or not
-guard : (P : Behind → Type 0) (m : Master) (out : List ℕ) (turn : Behind) (f : checked.Fault) → ((x : No) → f ≡ checked.fails x → P (m, (t.Told.refused x, out))) → (f ≡ checked.good → P turn)
+guard : (P : Behind → Type 0) (m : Master) (out : List ℕ) (turn : Behind) (f : w.Fault) → ((x : No) → f ≡ w.fails x → P (m, (t.Told.refused x, out))) → (f ≡ w.good → P turn)
     → P (unlessRefused f m out turn)
-guard P m out turn checked.good a b = b refl
-guard P m out turn (checked.fails x) a b = a x refl
+guard P m out turn w.good a b = b refl
+guard P m out turn (w.fails x) a b = a x refl
 
 -- a refusal of another number is not 15
-other-number : (k : ℕ) (x : No) → checked.fails (no k 0) ≡ checked.fails x → ¬ (k ≡ 15) → ¬ (x .number ≡ 15)
+other-number : (k : ℕ) (x : No) → w.fails (no k 0) ≡ w.fails x → ¬ (k ≡ 15) → ¬ (x .number ≡ 15)
 other-number k x e n q = let y : no k 0 ≡ x = cc in n (ap (λ (z : No). z .number) y ∙ q)
 
 -- in its ranges a state is not refused 15
-call-number : (m : Master) (room : ℕ) (x : No) → inRanges m ≡ true → callFault m room ≡ checked.fails x → ¬ (x .number ≡ 15)
+call-number : (m : Master) (room : ℕ) (x : No) → inRanges m ≡ true → callFault m room ≡ w.fails x → ¬ (x .number ≡ 15)
 unfolding callFault
 call-number m room x h e = go (inRanges m) (ltb room longest) h e
   where
-    go : (r s : Bool) → r ≡ true → cond r (cond s (checked.fails (no 14 0)) checked.good) (checked.fails (no 15 0)) ≡ checked.fails x → ¬ (x .number ≡ 15)
+    go : (r s : Bool) → r ≡ true → cond r (cond s (w.fails (no 14 0)) w.good) (w.fails (no 15 0)) ≡ w.fails x → ¬ (x .number ≡ 15)
     go true true h e q = other-number 14 x e (λ z. omega arith) q
     go true false h e q = let z : _≡_ {A = ℕ} 0 1 = cc in omega arith
     go false s h e q = let z : _≡_ {A = ℕ} 0 1 = cc in omega arith
 
 -- nor is an offer by 16, 12 and 13
-offer-number : (m : Master) (rec : Record) (x : No) → offerFault m rec ≡ checked.fails x → ¬ (x .number ≡ 15)
+offer-number : (m : Master) (rec : Record) (x : No) → offerFault m rec ≡ w.fails x → ¬ (x .number ≡ 15)
 unfolding offerFault
 offer-number m rec x e = go (isFree m) (byMaster (m .line) (typeOf rec)) (permitsRecord (m .line) rec) e
   where
-    go : (f b p : Bool) → cond f (cond b (cond p checked.good (checked.fails (no 13 0))) (checked.fails (no 12 0))) (checked.fails (no 16 0)) ≡ checked.fails x → ¬ (x .number ≡ 15)
+    go : (f b p : Bool) → cond f (cond b (cond p w.good (w.fails (no 13 0))) (w.fails (no 12 0))) (w.fails (no 16 0)) ≡ w.fails x → ¬ (x .number ≡ 15)
     go true true true e q = let z : _≡_ {A = ℕ} 0 1 = cc in omega arith
     go true true false e q = other-number 13 x e (λ z. omega arith) q
     go true false p e q = other-number 12 x e (λ z. omega arith) q

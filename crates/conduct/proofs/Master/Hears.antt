@@ -8,9 +8,8 @@ use lib.ListN.{length, getD}
 use borrow.Author.Tests.{eq-eqb, ne-eqb, eqb-true, eqb-false}
 use Rattle.records.specs.Records.{typeOf}
 use Rattle.records.specs.declared.records.Record.{Record}
-use Rattle.framing.specs.Answers.{firstFault, good}
-use Rattle.reading.specs.Answers.{Answer, accepted}
-use Rattle.reading.specs.Answers as w
+use Rattle.records.specs.Answers.{firstFault, good, Answer, accepted}
+use Rattle.records.specs.Answers as w
 use Rattle.framing.specs.Frame.{frameChecks}
 use Rattle.reading.specs.Reading.{readingOf}
 use Rattle.roundtrips.proofs.Checks.{accepted-only}

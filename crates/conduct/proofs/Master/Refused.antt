@@ -8,7 +8,7 @@ use lib.ListN.{length}
 use Rattle.laws.proofs.Truths.{clash}
 use Rattle.records.specs.Refusals.{No}
 use Rattle.records.specs.declared.records.Record.{Record}
-use Rattle.framing.specs.Answers.{Fault, good, fails}
+use Rattle.records.specs.Answers.{Fault, good, fails}
 use Rattle.clock.specs.Clock.{runOut}
 use Rattle.judging.specs.Judging.{Judged}
 use Rattle.judging.specs.Judging as j

@@ -11,8 +11,8 @@ use Rattle.records.specs.Refusals.{No}
 use Rattle.records.specs.Records.{typeOf}
 use Rattle.records.specs.declared.records.Record.{Record}
 use Rattle.records.specs.declared.records.Record.the-variants.{Approved, Rejected}
-use Rattle.reading.specs.Answers.{accepted}
-use Rattle.reading.specs.Answers as w
+use Rattle.records.specs.Answers.{accepted}
+use Rattle.records.specs.Answers as w
 use Rattle.reading.specs.Reading.{readingOf}
 use Rattle.writing.specs.Writing.{telegramOf}
 use Rattle.clock.specs.Counters.{numberIn}

@@ -6,7 +6,7 @@ use Prim.Native.Nat.{ℕ}
 use lib.ListN.{take}
 use Rattle.lines.specs.Lines.{isLine}
 use Rattle.records.specs.declared.records.Record.{Record}
-use Rattle.reading.specs.Answers as w
+use Rattle.records.specs.Answers as w
 use Rattle.reading.specs.Reading.{readingOf}
 use Rattle.replying.specs.Replying.{Origin, requested, queue, key, panel, contents, notMaster, nothingSet}
 use Rattle.desk.specs.Answers.{done, lost}

@@ -5,7 +5,7 @@ use mathlib.Core.Bool.{true, false}
 use mathlib.Core.List.{List}
 use Prim.Native.Nat.{ℕ, _^_, _≤_, _<_}
 use Rattle.records.specs.declared.records.Record.{Record}
-use Rattle.reading.specs.Answers.{accepted}
+use Rattle.records.specs.Answers.{accepted}
 use Rattle.reading.specs.Reading.{readingOf}
 use Rattle.deciding.specs.Deciding.{repeat, handle, matterIn}
 use Rattle.desk.specs.Answers.{done, lost}

@@ -3,7 +3,7 @@ use mathlib.Core.Path.{_≡_}
 use mathlib.Core.Bool.{Bool, true}
 use Prim.Native.Nat.{ℕ}
 use Rattle.clock.specs.Counters.{changedOf}
-use Rattle.reading.specs.Answers.{Answer}
+use Rattle.records.specs.Answers.{Answer}
 use Rattle.master.specs.declared.state.Master.{Master}
 use Rattle.master.specs.Answers.{Ground, otherKind, givenUp}
 use Rattle.master.specs.State.{isFree, inRanges}

@@ -9,9 +9,8 @@ use Rattle.characters.specs.Marks.{longest}
 use Rattle.records.specs.Refusals.{No}
 use Rattle.records.specs.Records.{typeOf}
 use Rattle.records.specs.declared.records.Record.{Record}
-use Rattle.framing.specs.Answers.{firstFault, good, fails}
-use Rattle.reading.specs.Answers.{accepted}
-use Rattle.reading.specs.Answers as w
+use Rattle.records.specs.Answers.{firstFault, good, fails, accepted}
+use Rattle.records.specs.Answers as w
 use Rattle.framing.specs.Frame.{frameChecks}
 use Rattle.reading.specs.Reading.{readingOf}
 use Rattle.clock.specs.Counters.{numberIn}

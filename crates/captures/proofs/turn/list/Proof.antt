@@ -2,8 +2,7 @@
 use mathlib.Core.Path.{sym, ap, _∙_}
 use native.Mathlib.Omega.{arith}
 use denote.Ref.{now}
-use Rattle.framing.specs.Answers.{faultOf}
-use Rattle.reading.specs.Answers.{written}
+use Rattle.records.specs.Answers.{faultOf, written}
 use Rattle.lister.specs.declared.state.Lister.{Lister}
 use Rattle.lister.proofs.Checks.{held-within, in-range}
 use Rattle.captures.specs.Turn.{Turned, beside}

@@ -1,7 +1,7 @@
 -- `deciding::deciding::decide` meets its contract. Assumes nothing.
 use Rattle.deciding.proofs.Rulings.{when-accepted, when-refused}
 use Rattle.deciding.specs.Deciding.{What, goodFrame}
-use Rattle.reading.specs.Answers.{answerOf}
+use Rattle.records.specs.Answers.{answerOf}
 use denote.Ref.{now}
 use mathlib.Core.Path.{sym, ap, _∙_}
 use borrow.Author.Needs.{needs}

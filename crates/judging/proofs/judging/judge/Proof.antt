@@ -1,6 +1,6 @@
 -- `judging::judging::judge` meets its contract. Assumes nothing.
 use Rattle.judging.proofs.Verdicts.{when-bad, when-other, when-taken}
-use Rattle.framing.specs.Answers.{faultOf}
+use Rattle.records.specs.Answers.{faultOf}
 use Rattle.laws.proofs.Truths.{not-true, not-false}
 use denote.Ref.{now}
 use mathlib.Core.Path.{sym, ap, _∙_}

@@ -1,7 +1,7 @@
 -- `put_line` puts the parts of the line one behind the other from the front. Assumes nothing.
 use native.Mathlib.Omega.{arith}
 use denote.Ref.{now}
-use Rattle.reading.specs.Answers.{answerOf}
+use Rattle.records.specs.Answers.{answerOf}
 use Rattle.listings.specs.Lines.{lineText}
 use Rattle.text.proofs.Puts.{then}
 use Rattle.listings.proofs.Puts.{no-line, whole}

@@ -1,7 +1,7 @@
 -- `masterhearing::hearing::hear` checks 15 and 14. Assumes nothing.
 use denote.Ref.{now}
 use mathlib.Core.Path.{sym, ap, _∙_}
-use Rattle.framing.specs.Answers.{faultOf}
+use Rattle.records.specs.Answers.{faultOf}
 use Rattle.master.proofs.Ranges.{passed}
 use Rattle.masterhearing.proofs.Hears.{hear-refused}
 use borrow.Author.Needs.{needs}

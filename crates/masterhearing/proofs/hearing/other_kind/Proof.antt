@@ -1,6 +1,6 @@
 -- `masterhearing::hearing::other_kind` ends the telegram as answered. Assumes nothing.
 use mathlib.Core.Path.{ap}
-use Rattle.reading.specs.Answers.{answerOf}
+use Rattle.records.specs.Answers.{answerOf}
 use Rattle.master.specs.declared.state.Master.{Master}
 use Rattle.master.specs.Answers.{otherKind}
 use borrow.Author.Needs.{needs}

@@ -1,7 +1,7 @@
 -- `put_next` cuts, reads and puts as its definition does. Assumes nothing.
 use mathlib.Core.Path.{sym, ap, _∙_}
 use denote.Ref.{now}
-use Rattle.reading.specs.Answers.{outcomeOf}
+use Rattle.records.specs.Answers.{outcomeOf}
 use Rattle.pieces.proofs.Listings.{none-put, one-put}
 use borrow.Author.Needs.{needs}
 use Rattle.pieces.proofs.pieces.put_next.Statement.{statement}

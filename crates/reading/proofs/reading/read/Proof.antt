@@ -1,6 +1,6 @@
 -- `reading::reading::read` meets its contract. Assumes nothing.
 use Rattle.reading.proofs.Contents.{no-line, frame-bad, frame-good}
-use Rattle.framing.specs.Answers.{faultOf}
+use Rattle.records.specs.Answers.{faultOf}
 use Rattle.laws.proofs.Truths.{not-true, not-false}
 use denote.Ref.{now}
 use mathlib.Core.Path.{sym, ap, _∙_}

@@ -2,7 +2,7 @@
 use Rattle.replaying.proofs.Turning.{refused-turn, wanted, some-read, none-read, none-wanted}
 use Rattle.replaying.proofs.Checks.{fits}
 use Rattle.lister.specs.declared.state.Wants.the-variants.{Read, Again, End}
-use Rattle.framing.specs.Answers.{faultOf}
+use Rattle.records.specs.Answers.{faultOf}
 use denote.Ref.{now}
 use native.Mathlib.Omega.{arith}
 use mathlib.Core.Path.{sym, ap, _∙_}

@@ -5,7 +5,7 @@ use Rattle.laws.proofs.Truths.{not-true, not-false}
 use denote.Ref.{now}
 use native.Mathlib.Omega.{arith}
 use mathlib.Core.List.{List}
-use Rattle.reading.specs.Answers.{Outcome}
+use Rattle.records.specs.Answers.{Outcome}
 use Rattle.values.proofs.Recorded.{record-looked, record-row}
 use Rattle.writing.proofs.Writes.{no-line, not-sent, not-permitted, no-number, no-room, in-full}
 use borrow.Author.Needs.{needs}

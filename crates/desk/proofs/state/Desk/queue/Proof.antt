@@ -1,6 +1,6 @@
 -- `desk::state::Desk::queue` meets its contract. Assumes nothing.
 use Rattle.desk.proofs.Calls.{queue-refused, queue-full, queue-done}
-use Rattle.framing.specs.Answers.{faultOf}
+use Rattle.records.specs.Answers.{faultOf}
 use mathlib.Core.Path.{sym, ap, _∙_}
 use borrow.Author.Needs.{needs}
 use Rattle.desk.proofs.state.Desk.queue.Statement.{statement}

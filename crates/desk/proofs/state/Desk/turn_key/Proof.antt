@@ -1,6 +1,6 @@
 -- `desk::state::Desk::turn_key` meets its contract. Assumes nothing.
 use Rattle.desk.proofs.Calls.{key-refused, key-done}
-use Rattle.framing.specs.Answers.{faultOf}
+use Rattle.records.specs.Answers.{faultOf}
 use mathlib.Core.Path.{refl, sym, ap, _∙_}
 use borrow.Author.Needs.{needs}
 use Rattle.desk.proofs.state.Desk.turn_key.Statement.{statement}

@@ -1,7 +1,7 @@
 -- `master::state::Master::fail` checks 15 and 14, and takes a failed sending while not free. Assumes nothing.
 use mathlib.Core.Path.{sym, ap, _∙_}
 use denote.Ref.{now}
-use Rattle.framing.specs.Answers.{faultOf}
+use Rattle.records.specs.Answers.{faultOf}
 use borrow.Author.Tests.{ne-eqb}
 use Rattle.master.specs.Answers.{groundOf}
 use Rattle.master.proofs.Ranges.{passed}

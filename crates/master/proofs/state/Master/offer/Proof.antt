@@ -1,7 +1,7 @@
 -- `master::state::Master::offer` checks 15 and 14, then 16, 12 and 13, and sends. Assumes nothing.
 use mathlib.Core.Path.{sym, ap, _∙_}
 use denote.Ref.{now}
-use Rattle.framing.specs.Answers.{faultOf}
+use Rattle.records.specs.Answers.{faultOf}
 use Rattle.master.proofs.Ranges.{passed, numbered}
 use Rattle.master.proofs.Sends.{offer-passed, offer-refused, offer-barred, offer-sent}
 use borrow.Author.Needs.{needs}

@@ -1,7 +1,7 @@
 -- `master::state::Master::tick` checks 15 and 14, then polls or waits by the state it finds. Assumes nothing.
 use mathlib.Core.Path.{sym, ap, _∙_}
 use denote.Ref.{now}
-use Rattle.framing.specs.Answers.{faultOf}
+use Rattle.records.specs.Answers.{faultOf}
 use borrow.Author.Tests.{ne-eqb}
 use Rattle.master.proofs.Ranges.{passed}
 use Rattle.master.proofs.Sends.{tick-refused, tick-free, tick-busy}
