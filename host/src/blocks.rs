@@ -6,6 +6,7 @@ use crate::desk::Desk;
 use crate::master::Master;
 use crate::reading::FORMS;
 use crate::records::Record;
+use std::sync::LazyLock;
 
 pub const RECORD: usize = 64;
 pub const GATHERER: usize = 67;
@@ -16,19 +17,23 @@ const ANSWER: usize = 66;
 /// The places of a desk's queue.
 const PLACES: usize = 8;
 
-/// How many values a record of a type has, where there is such a type.
-fn values_of(type_byte: u8) -> Option<usize> {
-    let form = FORMS.iter().find(|form| form.type_byte == type_byte)?;
-    Some(form.letters().count())
-}
+/// How many values a record of each type has, where there is such a type.
+static COUNTS: LazyLock<[Option<usize>; 256]> = LazyLock::new(|| {
+    std::array::from_fn(|type_byte| {
+        let mut forms = FORMS.iter();
+        let form = forms.find(|form| usize::from(form.type_byte) == type_byte)?;
+        Some(form.letters().count())
+    })
+});
 
 /// The block of a record.
-pub fn record_block(record: &Record) -> Vec<u8> {
-    let mut block = vec![record.type_byte];
-    for value in &record.values {
-        block.extend(value.to_be_bytes());
+pub fn record_block(record: &Record) -> [u8; RECORD] {
+    let mut block = [0; RECORD];
+    let (type_byte, values) = block.split_at_mut(1);
+    type_byte.fill(record.type_byte);
+    for (place, value) in values.chunks_exact_mut(4).zip(&record.values) {
+        place.copy_from_slice(&value.to_be_bytes());
     }
-    block.resize(RECORD, 0);
     block
 }
 
@@ -40,7 +45,7 @@ pub fn record_in(block: &[u8]) -> Result<Record, u8> {
     }
     let mut rest = Rest(block);
     let type_byte = rest.byte();
-    let count = values_of(type_byte).ok_or(12)?;
+    let count = COUNTS[usize::from(type_byte)].ok_or(12)?;
     let values = (0..count).map(|_| rest.number()).collect();
     if rest.0.iter().any(|byte| *byte != 0) {
         return Err(13);
@@ -116,7 +121,8 @@ pub fn desk_in(block: &[u8]) -> Option<Desk> {
 /// The block of a desk with all places of its queue.
 pub fn desk_block(desk: &Desk) -> Vec<u8> {
     let flag = u8::from(desk.requested.is_some());
-    let mut block = vec![desk.line, desk.good.into(), desk.last, desk.key];
+    let mut block = Vec::with_capacity(DESK);
+    block.extend([desk.line, desk.good.into(), desk.last, desk.key]);
     block.extend(desk.t1.to_be_bytes());
     block.extend([desk.kept as u8, desk.queued as u8, flag]);
     block.extend(&desk.stored);
@@ -173,7 +179,8 @@ pub fn master_in(block: &[u8]) -> Option<Master> {
 
 /// The block of a master.
 pub fn master_block(master: &Master) -> Vec<u8> {
-    let mut block = vec![master.line, master.good.into(), master.number, master.count];
+    let mut block = Vec::with_capacity(MASTER);
+    block.extend([master.line, master.good.into(), master.number, master.count]);
     block.extend(master.t0.to_be_bytes());
     block.extend(master.t2.to_be_bytes());
     block.push(master.operation.into());

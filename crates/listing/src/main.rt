@@ -29,6 +29,17 @@ fn at_end(lister: Lister) -> bool {
     }
 }
 
+// Writes what a turn has put; false where the turn is refused or the bytes cannot be written.
+fn written(answer: Writing, out: &[u8]) -> bool {
+    match answer {
+        Writing::Written(filled) => write_out(out, filled, b"listing: writing"),
+        Writing::Refused(_) => {
+            complain(b"listing: refused\n");
+            false
+        }
+    }
+}
+
 // Turn after turn. A proved loop has to end, so it counts its turns down, from a number that no run uses up.
 fn list_all(buf: &mut [u8], out: &mut [u8]) {
     let mut lister = Lister::start();
@@ -42,11 +53,7 @@ fn list_all(buf: &mut [u8], out: &mut [u8]) {
         };
         let step = list(lister, buf, got, out);
         let answer = step.answer;
-        let Writing::Written(filled) = answer else {
-            complain(b"listing: refused\n");
-            return;
-        };
-        if !write_out(out, filled, b"listing: writing") {
+        if !written(answer, out) {
             return;
         }
         lister = step.lister;

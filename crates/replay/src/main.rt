@@ -31,6 +31,17 @@ fn at_end(replayer: Replayer) -> bool {
     }
 }
 
+// Writes what a turn has put; false where the turn is refused or the bytes cannot be written.
+fn written(answer: Writing, out: &[u8]) -> bool {
+    match answer {
+        Writing::Written(filled) => write_out(out, filled, b"replay: writing"),
+        Writing::Refused(_) => {
+            complain(b"replay: refused\n");
+            false
+        }
+    }
+}
+
 // Turn after turn. A proved loop has to end, so it counts its turns down, from a number that no run uses up.
 fn replay_all(opened: Replayer, buf: &mut [u8], out: &mut [u8]) {
     let mut replayer = opened;
@@ -44,11 +55,7 @@ fn replay_all(opened: Replayer, buf: &mut [u8], out: &mut [u8]) {
         };
         let step = replay(replayer, buf, got, out);
         let answer = step.answer;
-        let Writing::Written(filled) = answer else {
-            complain(b"replay: refused\n");
-            return;
-        };
-        if !write_out(out, filled, b"replay: writing") {
+        if !written(answer, out) {
             return;
         }
         replayer = step.replayer;
@@ -63,12 +70,9 @@ fn replay_input(buf: &mut [u8], out: &mut [u8]) {
         return;
     };
     let step = open(part(&first, 0, got), out);
-    let replayer = step.replayer;
     let answer = step.answer;
-    let Writing::Written(filled) = answer else {
-        return;
-    };
-    if write_out(out, filled, b"replay: writing") {
+    let replayer = step.replayer;
+    if written(answer, out) {
         replay_all(replayer, buf, out);
     }
 }

@@ -69,7 +69,7 @@ fn each_telegram(face: &impl Face) {
         .iter()
         .map(|reading| Record::read(1, reading))
         .collect();
-    let blocks: Vec<Vec<u8>> = records.iter().map(record_block).collect();
+    let blocks: Vec<[u8; RECORD]> = records.iter().map(record_block).collect();
     let (mut out, mut block) = ([0; ROOM], [0; RECORD]);
     let by_library = || {
         for frame in &frames {

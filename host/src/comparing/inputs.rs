@@ -135,7 +135,7 @@ pub fn record(random: &mut Random, line: u8, wanted: Option<u8>) -> Record {
 
 /// A record's block, at times damaged or of another length.
 pub fn block(random: &mut Random, line: u8, wanted: Option<u8>) -> Vec<u8> {
-    let mut block = record_block(&record(random, line, wanted));
+    let mut block = record_block(&record(random, line, wanted)).to_vec();
     match random.below(40) {
         0 => change(random, &mut block),
         1 => block.truncate(random.below(RECORD)),
