@@ -19,10 +19,7 @@ same-length c = search needs
 
 returns : tie.Need-returns
 unfolding bytesText
-returns c =
-    let a = c .before .before in
-    let b = a .before .before .before .before .before in
-    then _ _ _ _ _ _ _ _ (b .put-number .ensures) (a .put-text .ensures)
+returns c = search then
 
 pub put-bytes-spec : {M : Type 1} → statement M
 put-bytes-spec =

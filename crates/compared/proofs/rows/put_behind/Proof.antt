@@ -14,7 +14,7 @@ same-length : tie.Need-same-length
 same-length c = search needs
 
 returns : tie.Need-returns
-returns c = then _ _ _ _ _ _ _ _ (c .before .before .before .before .before .before .put-text .ensures) (c .before .before .put-text2 .ensures)
+returns c = search then
 
 pub put-behind-spec : {M : Type 1} → statement M
 put-behind-spec = tie.close (tie.spec put-text-requires put-text-requires-2 same-length returns)

@@ -19,11 +19,7 @@ same-length c = search needs
 
 returns : tie.Need-returns
 unfolding steppedText
-returns c =
-    let a = c .before .before in
-    let b = a .before .before .before .before in
-    let d = b .before .before .before .before in
-    then _ _ _ _ _ _ _ _ (d .begin .ensures) (then _ _ _ _ _ _ _ _ (b .put-outcome .ensures) (a .put-numbers .ensures))
+returns c = search then
 
 pub put-stepped-spec : {M : Type 1} → statement M
 put-stepped-spec =

@@ -28,13 +28,7 @@ same-length c = search needs
 
 returns : tie.Need-returns
 unfolding wholeText
-returns c =
-    let a = c .before .before in
-    let b = a .before .before .before .before in
-    let d = b .before .before .before .before in
-    let e = d .before .before .before .before in
-    let f = e .before .before .before .before .before in
-    then _ _ _ _ _ _ _ _ (f .begin .ensures) (then _ _ _ _ _ _ _ _ (e .put-starts .ensures) (then _ _ _ _ _ _ _ _ (d .put-wanted .ensures) (then _ _ _ _ _ _ _ _ (b .put-queue .ensures) (a .put-numbers .ensures))))
+returns c = search then
 
 pub put-whole-spec : {M : Type 1} → statement M
 put-whole-spec =

@@ -22,11 +22,7 @@ same-length c = search needs
 
 returns : tie.Need-returns
 unfolding faultText
-returns c =
-    let a = c .before .before in
-    let b = a .before .before .before .before in
-    let d = b .before .before .before .before .before in
-    then _ _ _ _ _ _ _ _ (d .put-noted .ensures) (then _ _ _ _ _ _ _ _ (b .put-text .ensures) (a .put-bytes .ensures))
+returns c = search then
 
 pub put-fault-spec : {M : Type 1} → statement M
 put-fault-spec =

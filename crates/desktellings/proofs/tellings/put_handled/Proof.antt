@@ -31,15 +31,7 @@ same-length c = search needs
 
 returns : tie.Need-returns
 unfolding handledText
-returns c =
-    let a = c .before .before in
-    let b = a .before .before .before .before in
-    let d = b .before .before .before .before .before in
-    let e = d .before .before .before .before in
-    let f = e .before .before .before .before .before in
-    then _ _ _ _ _ _ _ _ (f .put-noted .ensures)
-    (then _ _ _ _ _ _ _ _ (e .put-text .ensures)
-    (then _ _ _ _ _ _ _ _ (d .put-source .ensures) (then _ _ _ _ _ _ _ _ (b .put-text2 .ensures) (a .put-bytes .ensures))))
+returns c = search then
 
 pub put-handled-spec : {M : Type 1} → statement M
 put-handled-spec =

@@ -25,11 +25,7 @@ same-length c = search needs
 
 returns : tie.Need-returns
 unfolding refusalText
-returns c =
-    let p = c .before .before .before .before .before .before in
-    let q = p .before .before .before .before in
-    let t = q .before .before .before .before in
-    then _ _ _ _ _ _ _ _ (t .put-text .ensures) (then _ _ _ _ _ _ _ _ (q .put-number .ensures) (then _ _ _ _ _ _ _ _ (p .put-byte .ensures) (c .before .before .put-number2 .ensures)))
+returns c = search then
 
 pub put-no-spec : {M : Type 1} → statement M
 put-no-spec =

@@ -16,7 +16,7 @@ same-length c = search needs
 
 returns : tie.Need-returns
 unfolding valueText
-returns c = then _ _ _ _ _ _ _ _ (c .before .before .before .before .before .before .put-byte .ensures) (c .before .before .put-number .ensures)
+returns c = search then
 
 pub put-value-spec : {M : Type 1} → statement M
 put-value-spec = tie.close (tie.spec put-byte-requires put-number-requires same-length returns)

@@ -22,12 +22,7 @@ same-length c = search needs
 
 returns : tie.Need-returns
 unfolding wholeText
-returns c =
-    let a = c .before .before in
-    let b = a .before .before .before .before in
-    let d = b .before .before .before .before in
-    let e = d .before .before .before .before in
-    then _ _ _ _ _ _ _ _ (e .begin .ensures) (then _ _ _ _ _ _ _ _ (d .put-starts .ensures) (then _ _ _ _ _ _ _ _ (b .put-busy .ensures) (a .put-numbers .ensures)))
+returns c = search then
 
 pub put-whole-spec : {M : Type 1} → statement M
 put-whole-spec =

@@ -28,12 +28,7 @@ same-length c = search needs
 
 returns : tie.Need-returns
 unfolding answeredText
-returns c =
-    let a = c .before .before in
-    let b = a .before .before .before .before in
-    let d = b .before .before .before .before .before in
-    let e = d .before .before .before .before in
-    then _ _ _ _ _ _ _ _ (e .put-text .ensures) (then _ _ _ _ _ _ _ _ (d .put-count .ensures) (then _ _ _ _ _ _ _ _ (b .put-text2 .ensures) (a .put-record .ensures)))
+returns c = search then
 
 pub put-answered-spec : {M : Type 1} → statement M
 put-answered-spec =

@@ -22,11 +22,7 @@ same-length c = search needs
 
 returns : tie.Need-returns
 unfolding givenUpText
-returns c =
-    let a = c .before .before in
-    let b = a .before .before .before .before in
-    let d = b .before .before .before .before in
-    then _ _ _ _ _ _ _ _ (d .put-text .ensures) (then _ _ _ _ _ _ _ _ (b .put-cause .ensures) (a .put-count .ensures))
+returns c = search then
 
 pub put-given-up-spec : {M : Type 1} → statement M
 put-given-up-spec =

@@ -25,12 +25,7 @@ same-length c = search needs
 
 returns : tie.Need-returns
 unfolding sentText
-returns c =
-    let a = c .before .before in
-    let b = a .before .before .before .before in
-    let d = b .before .before .before .before .before in
-    let e = d .before .before .before .before in
-    then _ _ _ _ _ _ _ _ (e .put-sending .ensures) (then _ _ _ _ _ _ _ _ (d .put-count .ensures) (then _ _ _ _ _ _ _ _ (b .put-text .ensures) (a .put-bytes .ensures)))
+returns c = search then
 
 pub put-sent-spec : {M : Type 1} → statement M
 put-sent-spec =

@@ -28,16 +28,7 @@ same-length c = search needs
 
 returns : tie.Need-returns
 unfolding openingText
-returns c =
-    let put-number = c .before .before .before .before .before .before .before .before .before .before .before .before .before .before .before .before .before .before .before .before .before .before .put-number in
-    let put-byte = c .before .before .before .before .before .before .before .before .before .before .before .before .before .before .before .before .before .before .put-byte in
-    let put-number2 = c .before .before .before .before .before .before .before .before .before .before .before .before .before .before .put-number2 in
-    let put-byte2 = c .before .before .before .before .before .before .before .before .before .before .put-byte2 in
-    let put-number3 = c .before .before .before .before .before .before .put-number3 in
-    then _ _ _ _ _ _ _ _ (put-number .ensures)
-    (then _ _ _ _ _ _ _ _ (put-byte .ensures)
-    (then _ _ _ _ _ _ _ _ (put-number2 .ensures)
-    (then _ _ _ _ _ _ _ _ (put-byte2 .ensures) (then _ _ _ _ _ _ _ _ (put-number3 .ensures) (c .before .before .put-byte3 .ensures)))))
+returns c = search then
 
 pub begin-spec : {M : Type 1} → statement M
 begin-spec =

@@ -19,10 +19,7 @@ same-length c = search needs
 
 returns : tie.Need-returns
 unfolding tickedText
-returns c =
-    let begin = c .before .before .before .before .before .before .before .before .before .before .begin in
-    let put-outcome = c .before .before .before .before .before .before .put-outcome in
-    then _ _ _ _ _ _ _ _ (begin .ensures) (then _ _ _ _ _ _ _ _ (put-outcome .ensures) (c .before .before .put-byte .ensures))
+returns c = search then
 
 pub put-ticking-spec : {M : Type 1} → statement M
 put-ticking-spec =

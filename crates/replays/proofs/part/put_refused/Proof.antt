@@ -16,7 +16,7 @@ same-length c = search needs
 
 returns : tie.Need-returns
 unfolding refusedText
-returns c = then _ _ _ _ _ _ _ _ (c .before .before .before .before .before .before .put-no .ensures) (c .before .before .put-byte .ensures)
+returns c = search then
 
 pub put-refused-spec : {M : Type 1} → statement M
 put-refused-spec = tie.close (tie.spec put-no-requires put-byte-requires same-length returns)

@@ -16,10 +16,7 @@ same-length c = search needs
 
 returns : tie.Need-returns
 unfolding numberText
-returns c =
-    let a = c .before .before in
-    let b = a .before .before .before .before in
-    then _ _ _ _ _ _ _ _ (b .put-text .ensures) (a .put-number .ensures)
+returns c = search then
 
 pub number-spec : {M : Type 1} → statement M
 number-spec = tie.close (tie.spec put-text-requires put-number-requires same-length returns)

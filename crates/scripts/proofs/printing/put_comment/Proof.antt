@@ -16,10 +16,7 @@ same-length c = search needs
 
 returns : tie.Need-returns
 unfolding commentText
-returns c =
-    let a = c .before .before in
-    let b = a .before .before .before .before in
-    then _ _ _ _ _ _ _ _ (b .put-text .ensures) (a .put-byte .ensures)
+returns c = search then
 
 pub put-comment-spec : {M : Type 1} → statement M
 put-comment-spec = tie.close (tie.spec put-text-requires put-byte-requires same-length returns)

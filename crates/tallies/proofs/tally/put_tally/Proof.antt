@@ -28,12 +28,7 @@ same-length c = search needs
 
 returns : tie.Need-returns
 unfolding tallyText
-returns c =
-    let d = c .before .before in
-    let q = d .before .before .before .before .before in
-    let p = q .before .before .before .before in
-    let t = p .before .before .before .before .before in
-    then _ _ _ _ _ _ _ _ (t .put-number .ensures) (then _ _ _ _ _ _ _ _ (p .put-text .ensures) (then _ _ _ _ _ _ _ _ (q .put-number2 .ensures) (d .put-text2 .ensures)))
+returns c = search then
 
 pub put-tally-spec : {M : Type 1} → statement M
 put-tally-spec =
