@@ -84,28 +84,6 @@ pub list-all-spec : {M : Type 1} → statement M
 list-all-spec =
     tie.close
     (tie.spec
-    Inv-loop
-    μ-loop
-    start-requires
-    loop-holds
-    at-end-requires
-    same-length
-    same-length-2
-    returns
-    next-piece-requires
-    enum-known-got
-    enum-told
-    same-length-3
-    same-length-4
-    returns-2
-    list-requires
-    written-requires
-    same-length-5
-    same-length-6
-    returns-3
-    sub-turns
-    loop-less
-    loop-again
-    same-length-7
-    same-length-8
-    returns-4)
+    Inv-loop μ-loop start-requires loop-holds at-end-requires same-length same-length-2 returns next-piece-requires enum-known-got enum-told
+    same-length-3 same-length-4 returns-2 list-requires written-requires same-length-5 same-length-6 returns-3 sub-turns loop-less loop-again
+    same-length-7 same-length-8 returns-4)

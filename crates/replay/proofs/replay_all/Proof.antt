@@ -81,27 +81,6 @@ pub replay-all-spec : {M : Type 1} → statement M
 replay-all-spec =
     tie.close
     (tie.spec
-    Inv-loop
-    μ-loop
-    loop-holds
-    at-end-requires
-    same-length
-    same-length-2
-    returns
-    next-piece-requires
-    enum-known-got
-    enum-told
-    same-length-3
-    same-length-4
-    returns-2
-    replay-requires
-    written-requires
-    same-length-5
-    same-length-6
-    returns-3
-    sub-turns
-    loop-less
-    loop-again
-    same-length-7
-    same-length-8
-    returns-4)
+    Inv-loop μ-loop loop-holds at-end-requires same-length same-length-2 returns next-piece-requires enum-known-got enum-told same-length-3
+    same-length-4 returns-2 replay-requires written-requires same-length-5 same-length-6 returns-3 sub-turns loop-less loop-again same-length-7
+    same-length-8 returns-4)

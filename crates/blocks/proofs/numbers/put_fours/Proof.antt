@@ -59,14 +59,4 @@ pub put-fours-spec : {M : Type 1} → statement M
 put-fours-spec =
     tie.close
     (tie.spec
-    Inv-loop
-    μ-loop
-    loop-holds
-    mul-put-four
-    shared-slice-read-put-four
-    put-four-requires
-    add-j
-    loop-less
-    loop-again
-    same-length
-    returns)
+    Inv-loop μ-loop loop-holds mul-put-four shared-slice-read-put-four put-four-requires add-j loop-less loop-again same-length returns)

@@ -56,15 +56,4 @@ pub ten-said-spec : {M : Type 1} → statement M
 ten-said-spec =
     tie.close
     (tie.spec
-    Inv-loop
-    μ-loop
-    loop-holds
-    mul-part
-    part-requires
-    four-said-requires
-    mul-v
-    array-write-v
-    add-j
-    loop-less
-    loop-again
-    returns)
+    Inv-loop μ-loop loop-holds mul-part part-requires four-said-requires mul-v array-write-v add-j loop-less loop-again returns)

@@ -9,18 +9,6 @@ use borrow.Author.Needs.{needs}
 use Rattle.blocks.proofs.record.is_block.Statement.{statement}
 use Rattle.blocks.proofs.record.is_block.Tie as tie
 
-slice-aggregate-put-block : tie.Need-slice-aggregate-put-block
-slice-aggregate-put-block c = search needs
-
-put-block-requires : tie.Need-put-block-requires
-put-block-requires c κs = search needs
-
-slice-aggregate-same : tie.Need-slice-aggregate-same
-slice-aggregate-same c = search needs
-
-same-requires : tie.Need-same-requires
-same-requires c κs = search needs
-
 returns : tie.Need-returns
 returns c =
     let a = c .before .before .before .before .before .before .args in
@@ -30,8 +18,4 @@ pub is-block-spec : {M : Type 1} → statement M
 is-block-spec =
     tie.close
     (tie.spec
-    slice-aggregate-put-block
-    put-block-requires
-    slice-aggregate-same
-    same-requires
-    returns)
+    (λ c. search needs) (λ c κs. search needs) (λ c. search needs) (λ c κs. search needs) returns)

@@ -7,12 +7,6 @@ use borrow.Author.Needs.{needs}
 use Rattle.blocks.proofs.record.put_record.Statement.{statement}
 use Rattle.blocks.proofs.record.put_record.Tie as tie
 
-put-block-requires : tie.Need-put-block-requires
-put-block-requires c κs = search needs
-
-same-length : tie.Need-same-length
-same-length c = search needs
-
 returns : tie.Need-returns
 returns c =
     let p = c .before .before in
@@ -25,4 +19,4 @@ returns-2 c =
     unfilled recordLength (recordBytes (a .rec)) (now (a .block)) (c .if1 .left)
 
 pub put-record-spec : {M : Type 1} → statement M
-put-record-spec = tie.close (tie.spec put-block-requires same-length returns returns-2)
+put-record-spec = tie.close (tie.spec (λ c κs. search needs) (λ c. search needs) returns returns-2)

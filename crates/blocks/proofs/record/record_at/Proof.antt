@@ -8,18 +8,6 @@ use borrow.Author.Needs.{needs}
 use Rattle.blocks.proofs.record.record_at.Statement.{statement}
 use Rattle.blocks.proofs.record.record_at.Tie as tie
 
-byte-at-requires : tie.Need-byte-at-requires
-byte-at-requires c κs = search needs
-
-part-requires : tie.Need-part-requires
-part-requires c κs = search needs
-
-ten-said-requires : tie.Need-ten-said-requires
-ten-said-requires c κs = search needs
-
-record-of-requires : tie.Need-record-of-requires
-record-of-requires c κs = search needs
-
 returns : tie.Need-returns
 unfolding recordAt
 returns c = c .record-of .ensures ∙ ap₂ recordOf (c .before .before .before .byte-at .ensures) (c .before .ten-said .ensures ∙ ap (each 4 fourSaid 10) (c .before .before .part .ensures))
@@ -27,4 +15,4 @@ returns c = c .record-of .ensures ∙ ap₂ recordOf (c .before .before .before 
 pub record-at-spec : {M : Type 1} → statement M
 record-at-spec =
     tie.close
-    (tie.spec byte-at-requires part-requires ten-said-requires record-of-requires returns)
+    (tie.spec (λ c κs. search needs) (λ c κs. search needs) (λ c κs. search needs) (λ c κs. search needs) returns)

@@ -7,18 +7,6 @@ use borrow.Author.Needs.{needs}
 use Rattle.blocks.proofs.record.record_in.Statement.{statement}
 use Rattle.blocks.proofs.record.record_in.Tie as tie
 
-returns : tie.Need-returns
-returns c = other-length (now (c .before .before .args .block)) (c .if1 .taken)
-
-record-at-requires : tie.Need-record-at-requires
-record-at-requires c κs = search needs
-
-type-of-requires : tie.Need-type-of-requires
-type-of-requires c κs = search needs
-
-byte-at-requires : tie.Need-byte-at-requires
-byte-at-requires c κs = search needs
-
 returns-2 : tie.Need-returns-2
 returns-2 c =
     let q = c .before in
@@ -26,9 +14,6 @@ returns-2 c =
     let b = r .before in
     other-type (now (b .before .before .args .block)) (r .record-at .result) (q .before .type-of .result) (q .byte-at .result) (b .if1 .left) (r .record-at .ensures) (q .before .type-of .ensures)
     (q .byte-at .ensures) (c .if2 .taken)
-
-is-block-requires : tie.Need-is-block-requires
-is-block-requires c κs = search needs
 
 returns-3 : tie.Need-returns-3
 returns-3 c =
@@ -52,11 +37,5 @@ pub record-in-spec : {M : Type 1} → statement M
 record-in-spec =
     tie.close
     (tie.spec
-    returns
-    record-at-requires
-    type-of-requires
-    byte-at-requires
-    returns-2
-    is-block-requires
-    returns-3
-    returns-4)
+    (λ c. other-length (now (c .before .before .args .block)) (c .if1 .taken)) (λ c κs. search needs) (λ c κs. search needs) (λ c κs. search needs)
+    returns-2 (λ c κs. search needs) returns-3 returns-4)

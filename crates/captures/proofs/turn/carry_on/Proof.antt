@@ -7,18 +7,6 @@ use borrow.Author.Needs.{needs}
 use Rattle.captures.proofs.turn.carry_on.Statement.{statement}
 use Rattle.captures.proofs.turn.carry_on.Tie as tie
 
-part-requires : tie.Need-part-requires
-part-requires c κs = search needs
-
-list-part-requires : tie.Need-list-part-requires
-list-part-requires c κs = search needs
-
-same-length : tie.Need-same-length
-same-length c = search needs
-
-same-length-2 : tie.Need-same-length-2
-same-length-2 c = search needs
-
 returns : tie.Need-returns
 returns c =
     let a = c .before .before .before .before .before .before .before .before .before .before .args in
@@ -26,24 +14,6 @@ returns c =
     let list-part = c .before .before .before .before .list-part in
     full (a .lister) (a .line) (now (a .buf)) (a .n) (now (a .out)) _ (list-part .result) _ (part .ensures) (list-part .ensures) _
     (not-true _ (c .if1 .taken)) refl
-
-kept-from-requires : tie.Need-kept-from-requires
-kept-from-requires c κs = search needs
-
-keep-tail-requires : tie.Need-keep-tail-requires
-keep-tail-requires c κs = search needs
-
-less-requires : tie.Need-less-requires
-less-requires c κs = search needs
-
-wrapping-add-u64-requires : tie.Need-wrapping-add-u64-requires
-wrapping-add-u64-requires c κs = search needs
-
-same-length-3 : tie.Need-same-length-3
-same-length-3 c = search needs
-
-same-length-4 : tie.Need-same-length-4
-same-length-4 c = search needs
 
 returns-2 : tie.Need-returns-2
 returns-2 c =
@@ -60,15 +30,5 @@ pub carry-on-spec : {M : Type 1} → statement M
 carry-on-spec =
     tie.close
     (tie.spec
-    part-requires
-    list-part-requires
-    same-length
-    same-length-2
-    returns
-    kept-from-requires
-    keep-tail-requires
-    less-requires
-    wrapping-add-u64-requires
-    same-length-3
-    same-length-4
-    returns-2)
+    (λ c κs. search needs) (λ c κs. search needs) (λ c. search needs) (λ c. search needs) returns (λ c κs. search needs) (λ c κs. search needs)
+    (λ c κs. search needs) (λ c κs. search needs) (λ c. search needs) (λ c. search needs) returns-2)

@@ -50,16 +50,4 @@ pub all-spec : {M : Type 1} → statement M
 all-spec =
     tie.close
     (tie.spec
-    Inv-loop
-    μ-loop
-    start-requires
-    loop-holds
-    field-requires
-    same-length
-    returns
-    one-requires
-    add-k
-    loop-less
-    loop-again
-    same-length-2
-    returns-2)
+    Inv-loop μ-loop start-requires loop-holds field-requires same-length returns one-requires add-k loop-less loop-again same-length-2 returns-2)

@@ -12,8 +12,5 @@ returns c =
     let a = c .before .args in
     rw (le-ltb (a .b) (a .first) (c .if1 .taken), add-one (a .last)) (sym (leb·suc-suc (a .b) (a .last)))
 
-returns-2 : tie.Need-returns-2
-returns-2 c = search tests
-
 pub from-spec : {M : Type 1} → statement M
-from-spec = tie.close (tie.spec returns returns-2)
+from-spec = tie.close (tie.spec returns (λ c. search tests))

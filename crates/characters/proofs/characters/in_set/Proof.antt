@@ -42,31 +42,7 @@ all c =
     let national = or-next _ _ letters (λ a. (a .0 .taken, a .1)) (λ a. (a .0 .left, a .2 ∙ a .1 .ensures)) (c .if9 .came) in
     or-last _ national
 
-from-requires : tie.Need-from-requires
-from-requires c κs = search needs
-
-from-requires-2 : tie.Need-from-requires-2
-from-requires-2 c κs = search needs
-
-from-requires-3 : tie.Need-from-requires-3
-from-requires-3 c κs = search needs
-
-from-requires-4 : tie.Need-from-requires-4
-from-requires-4 c κs = search needs
-
-from-requires-5 : tie.Need-from-requires-5
-from-requires-5 c κs = search needs
-
-from-requires-6 : tie.Need-from-requires-6
-from-requires-6 c κs = search needs
-
-returns : tie.Need-returns
-returns c = c .if10 .taken ∙ rw (c .if10 .taken) at (all (c .before))
-
-returns-2 : tie.Need-returns-2
-returns-2 c = c .from6 .ensures ∙ rw (c .before .if10 .left) at (all (c .before .before))
-
 pub in-set-spec : {M : Type 1} → statement M
 in-set-spec =
     tie.close
-    (tie.spec from-requires from-requires-2 from-requires-3 from-requires-4 from-requires-5 from-requires-6 returns returns-2)
+    (tie.spec (λ c κs. search needs) (λ c κs. search needs) (λ c κs. search needs) (λ c κs. search needs) (λ c κs. search needs) (λ c κs. search needs) (λ c. c .if10 .taken ∙ rw (c .if10 .taken) at (all (c .before))) (λ c. c .from6 .ensures ∙ rw (c .before .if10 .left) at (all (c .before .before))))

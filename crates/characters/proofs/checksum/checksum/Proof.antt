@@ -61,15 +61,4 @@ pub checksum-spec : {M : Type 1} → statement M
 checksum-spec =
     tie.close
     (tie.spec
-    Inv-loop
-    μ-loop
-    loop-holds
-    shared-slice-read-sum
-    cast-sum
-    add-sum
-    add-i
-    loop-less
-    loop-again
-    sub-result
-    cast-result
-    returns)
+    Inv-loop μ-loop loop-holds shared-slice-read-sum cast-sum add-sum add-i loop-less loop-again sub-result cast-result returns)

@@ -4,12 +4,9 @@ use borrow.Author.Needs.{needs}
 use Rattle.clock.proofs.clock.run_out.Statement.{statement}
 use Rattle.clock.proofs.clock.run_out.Tie as tie
 
-elapsed-requires : tie.Need-elapsed-requires
-elapsed-requires c κs = search needs
-
 returns : tie.Need-returns
 unfolding runOut
 returns c = rw (c .elapsed .ensures)
 
 pub run-out-spec : {M : Type 1} → statement M
-run-out-spec = tie.close (tie.spec elapsed-requires returns)
+run-out-spec = tie.close (tie.spec (λ c κs. search needs) returns)

@@ -7,28 +7,10 @@ use borrow.Author.Needs.{needs}
 use Rattle.cutting.proofs.cutting.next_reading.Statement.{statement}
 use Rattle.cutting.proofs.cutting.next_reading.Tie as tie
 
-is-line-requires : tie.Need-is-line-requires
-is-line-requires c κs = search needs
-
 returns : tie.Need-returns
 returns c =
     let a = c .before .before .before .args in
     bad-line (a .line) (now (a .s)) (a .from) (sym (c .before .is-line .ensures) ∙ not-true _ (c .if1 .taken))
-
-span-of-requires : tie.Need-span-of-requires
-span-of-requires c κs = search needs
-
-enum-known-span : tie.Need-enum-known-span
-enum-known-span c = search needs
-
-part-of-requires : tie.Need-part-of-requires
-part-of-requires c κs = search needs
-
-read-requires : tie.Need-read-requires
-read-requires c κs = search needs
-
-enum-told : tie.Need-enum-told
-enum-told c = search needs
 
 returns-2 : tie.Need-returns-2
 returns-2 c =
@@ -52,12 +34,5 @@ pub next-reading-spec : {M : Type 1} → statement M
 next-reading-spec =
     tie.close
     (tie.spec
-    is-line-requires
-    returns
-    span-of-requires
-    enum-known-span
-    part-of-requires
-    read-requires
-    enum-told
-    returns-2
-    returns-3)
+    (λ c κs. search needs) returns (λ c κs. search needs) (λ c. search needs) (λ c κs. search needs) (λ c κs. search needs) (λ c. search needs)
+    returns-2 returns-3)

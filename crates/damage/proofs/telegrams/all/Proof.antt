@@ -38,13 +38,4 @@ pub all-spec : {M : Type 1} → statement M
 all-spec =
     tie.close
     (tie.spec
-    Inv-loop
-    μ-loop
-    loop-holds
-    cast-one
-    one-requires
-    wrapping-add-u64-requires
-    add-b
-    loop-less
-    loop-again
-    returns)
+    Inv-loop μ-loop loop-holds cast-one one-requires wrapping-add-u64-requires add-b loop-less loop-again returns)

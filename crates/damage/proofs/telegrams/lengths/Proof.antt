@@ -41,14 +41,5 @@ pub lengths-spec : {M : Type 1} → statement M
 lengths-spec =
     tie.close
     (tie.spec
-    Inv-loop
-    μ-loop
-    array-write-long
-    loop-holds
-    slice-aggregate-of-length
-    of-length-requires
-    wrapping-add-u64-requires
-    add-n
-    loop-less
-    loop-again
+    Inv-loop μ-loop array-write-long loop-holds slice-aggregate-of-length of-length-requires wrapping-add-u64-requires add-n loop-less loop-again
     returns)

@@ -53,18 +53,5 @@ pub with-sum-spec : {M : Type 1} → statement M
 with-sum-spec =
     tie.close
     (tie.spec
-    Inv-loop
-    μ-loop
-    loop-holds
-    array-read-wide
-    wide-requires
-    add-sum
-    add-i
-    loop-less
-    loop-again
-    sub-check
-    hex-digit-requires
-    array-write-t
-    hex-digit-requires-2
-    array-write-t-2
-    returns)
+    Inv-loop μ-loop loop-holds array-read-wide wide-requires add-sum add-i loop-less loop-again sub-check hex-digit-requires array-write-t
+    hex-digit-requires-2 array-write-t-2 returns)

@@ -117,21 +117,5 @@ pub bad-value-spec : {M : Type 1} → statement M
 bad-value-spec =
     tie.close
     (tie.spec
-    Inv-loop
-    μ-loop
-    count-of-requires
-    loop-holds
-    array-read-wide
-    wide-requires
-    array-read-permits-text
-    add-part
-    part-requires
-    permits-text-requires
-    add-t20
-    returns
-    add-at
-    add-at-2
-    add-j
-    loop-less
-    loop-again
-    returns-2)
+    Inv-loop μ-loop count-of-requires loop-holds array-read-wide wide-requires array-read-permits-text add-part part-requires permits-text-requires
+    add-t20 returns add-at add-at-2 add-j loop-less loop-again returns-2)

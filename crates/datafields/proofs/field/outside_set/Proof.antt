@@ -56,14 +56,4 @@ pub outside-set-spec : {M : Type 1} → statement M
 outside-set-spec =
     tie.close
     (tie.spec
-    Inv-loop
-    μ-loop
-    loop-holds
-    shared-slice-read-in-set
-    in-set-requires
-    add-t8
-    returns
-    add-i
-    loop-less
-    loop-again
-    returns-2)
+    Inv-loop μ-loop loop-holds shared-slice-read-in-set in-set-requires add-t8 returns add-i loop-less loop-again returns-2)

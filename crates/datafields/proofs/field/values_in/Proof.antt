@@ -101,21 +101,5 @@ pub values-in-spec : {M : Type 1} → statement M
 values-in-spec =
     tie.close
     (tie.spec
-    Inv-loop
-    μ-loop
-    count-of-requires
-    loop-holds
-    array-read-wide
-    wide-requires
-    array-read-value-of
-    add-part
-    part-requires
-    value-of-requires
-    mul-values
-    array-write-values
-    add-at
-    add-at-2
-    add-j
-    loop-less
-    loop-again
-    returns)
+    Inv-loop μ-loop count-of-requires loop-holds array-read-wide wide-requires array-read-value-of add-part part-requires value-of-requires mul-values
+    array-write-values add-at add-at-2 add-j loop-less loop-again returns)

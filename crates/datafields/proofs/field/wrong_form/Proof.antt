@@ -5,12 +5,6 @@ use borrow.Author.Needs.{needs}
 use Rattle.datafields.proofs.field.wrong_form.Statement.{statement}
 use Rattle.datafields.proofs.field.wrong_form.Tie as tie
 
-width-of-requires : tie.Need-width-of-requires
-width-of-requires c κs = search needs
-
-wrong-letter-requires : tie.Need-wrong-letter-requires
-wrong-letter-requires c κs = search needs
-
 returns : tie.Need-returns
 unfolding misshapen
 returns c = rw (← (c .before .before .width-of .ensures .0), eq-eqb _ _ (c .before .if1 .taken)) (c .wrong-letter .ensures)
@@ -20,4 +14,4 @@ unfolding misshapen
 returns-2 c = rw (← (c .before .width-of .ensures .0), ne-eqb _ _ (c .if1 .left))
 
 pub wrong-form-spec : {M : Type 1} → statement M
-wrong-form-spec = tie.close (tie.spec width-of-requires wrong-letter-requires returns returns-2)
+wrong-form-spec = tie.close (tie.spec (λ c κs. search needs) (λ c κs. search needs) returns returns-2)

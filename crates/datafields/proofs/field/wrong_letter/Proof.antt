@@ -97,19 +97,5 @@ pub wrong-letter-spec : {M : Type 1} → statement M
 wrong-letter-spec =
     tie.close
     (tie.spec
-    Inv-loop
-    μ-loop
-    count-of-requires
-    loop-holds
-    byte-at-requires
-    array-read-if1
-    add-t13
-    returns
-    array-read-wide
-    wide-requires
-    add-at
-    add-at-2
-    add-j
-    loop-less
-    loop-again
-    returns-2)
+    Inv-loop μ-loop count-of-requires loop-holds byte-at-requires array-read-if1 add-t13 returns array-read-wide wide-requires add-at add-at-2 add-j
+    loop-less loop-again returns-2)

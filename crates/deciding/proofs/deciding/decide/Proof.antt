@@ -8,27 +8,6 @@ use borrow.Author.Needs.{needs}
 use Rattle.deciding.proofs.deciding.decide.Statement.{statement}
 use Rattle.deciding.proofs.deciding.decide.Tie as tie
 
-byte-at-requires : tie.Need-byte-at-requires
-byte-at-requires c κs = search needs
-
-read-requires : tie.Need-read-requires
-read-requires c κs = search needs
-
-enum-known-reading : tie.Need-enum-known-reading
-enum-known-reading c = search needs
-
-matter-of-requires : tie.Need-matter-of-requires
-matter-of-requires c κs = search needs
-
-on-good-requires : tie.Need-on-good-requires
-on-good-requires c κs = search needs
-
-enum-known-reading-2 : tie.Need-enum-known-reading-2
-enum-known-reading-2 c = search needs
-
-on-refused-requires : tie.Need-on-refused-requires
-on-refused-requires c κs = search needs
-
 returns : tie.Need-returns
 returns c = let a = c .before .before .before .before .before .before .before .before .args in let k = c .before .before .before .reading .given in
     c .on-good .ensures
@@ -48,12 +27,5 @@ pub decide-spec : {M : Type 1} → statement M
 decide-spec =
     tie.close
     (tie.spec
-    byte-at-requires
-    read-requires
-    enum-known-reading
-    matter-of-requires
-    on-good-requires
-    enum-known-reading-2
-    on-refused-requires
-    returns
-    returns-2)
+    (λ c κs. search needs) (λ c κs. search needs) (λ c. search needs) (λ c κs. search needs) (λ c κs. search needs) (λ c. search needs)
+    (λ c κs. search needs) returns returns-2)

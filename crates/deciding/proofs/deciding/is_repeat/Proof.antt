@@ -5,14 +5,8 @@ use borrow.Author.Needs.{needs}
 use Rattle.deciding.proofs.deciding.is_repeat.Statement.{statement}
 use Rattle.deciding.proofs.deciding.is_repeat.Tie as tie
 
-is-requires : tie.Need-is-requires
-is-requires c κs = search needs
-
 returns : tie.Need-returns
 returns c = let a = c .before .before .args in c .is .ensures ∙ by-number (a .good) (a .last .0) (a .number) (c .before .if1 .taken)
 
-returns-2 : tie.Need-returns-2
-returns-2 c = let a = c .before .args in no-repeat (a .good) (a .last .0) (a .number) (c .if1 .left)
-
 pub is-repeat-spec : {M : Type 1} → statement M
-is-repeat-spec = tie.close (tie.spec is-requires returns returns-2)
+is-repeat-spec = tie.close (tie.spec (λ c κs. search needs) returns (λ c. let a = c .before .args in no-repeat (a .good) (a .last .0) (a .number) (c .if1 .left)))

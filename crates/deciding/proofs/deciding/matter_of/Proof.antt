@@ -6,12 +6,6 @@ use borrow.Author.Needs.{needs}
 use Rattle.deciding.proofs.deciding.matter_of.Statement.{statement}
 use Rattle.deciding.proofs.deciding.matter_of.Tie as tie
 
-type-of-requires : tie.Need-type-of-requires
-type-of-requires c κs = search needs
-
-by-master-requires : tie.Need-by-master-requires
-by-master-requires c κs = search needs
-
 returns : tie.Need-returns
 returns c = let a = c .before .before .before .args in not-master (a .line) (a .rec) _ (c .before .before .type-of .ensures) (sym (c .before .by-master .ensures) ∙ not-true _ (c .if1 .taken))
 
@@ -37,4 +31,4 @@ returns-4 c =
 
 pub matter-of-spec : {M : Type 1} → statement M
 matter-of-spec =
-    tie.close (tie.spec type-of-requires by-master-requires returns returns-2 returns-3 returns-4)
+    tie.close (tie.spec (λ c κs. search needs) (λ c κs. search needs) returns returns-2 returns-3 returns-4)

@@ -5,9 +5,6 @@ use borrow.Author.Needs.{needs}
 use Rattle.deciding.proofs.deciding.on_good.Statement.{statement}
 use Rattle.deciding.proofs.deciding.on_good.Tie as tie
 
-is-repeat-requires : tie.Need-is-repeat-requires
-is-repeat-requires c κs = search needs
-
 returns : tie.Need-returns
 returns c = let a = c .before .before .args in good-repeat (a .good) (a .last .0) (a .number) _ (sym (c .before .is-repeat .ensures) ∙ c .if1 .taken)
 
@@ -15,4 +12,4 @@ returns-2 : tie.Need-returns-2
 returns-2 c = let a = c .before .before .args in good-handled (a .good) (a .last .0) (a .number) _ (sym (c .before .is-repeat .ensures) ∙ c .if1 .left)
 
 pub on-good-spec : {M : Type 1} → statement M
-on-good-spec = tie.close (tie.spec is-repeat-requires returns returns-2)
+on-good-spec = tie.close (tie.spec (λ c κs. search needs) returns returns-2)

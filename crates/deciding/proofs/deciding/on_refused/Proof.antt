@@ -7,15 +7,6 @@ use borrow.Author.Needs.{needs}
 use Rattle.deciding.proofs.deciding.on_refused.Statement.{statement}
 use Rattle.deciding.proofs.deciding.on_refused.Tie as tie
 
-number-of-requires : tie.Need-number-of-requires
-number-of-requires c κs = search needs
-
-is-number-requires : tie.Need-is-number-requires
-is-number-requires c κs = search needs
-
-number-in-requires : tie.Need-number-in-requires
-number-in-requires c κs = search needs
-
 returns : tie.Need-returns
 returns c =
     let a = c .before .before .before .before .before .args in
@@ -36,12 +27,6 @@ returns-4 : tie.Need-returns-4
 returns-4 c = let a = c .before .before .before .before .args in let k = c .before .before .before .number-of .ensures in
     bad-high (a .good) (a .last .0) _ (a .byte) (λ e. c .before .before .if1 .left (k ∙ e)) (omega (arith, k))
 
-number-in-requires-2 : tie.Need-number-in-requires-2
-number-in-requires-2 c κs = search needs
-
-on-good-requires : tie.Need-on-good-requires
-on-good-requires c κs = search needs
-
 returns-5 : tie.Need-returns-5
 returns-5 c =
     let a = c .before .before .before .before .before .before .args in
@@ -56,13 +41,5 @@ pub on-refused-spec : {M : Type 1} → statement M
 on-refused-spec =
     tie.close
     (tie.spec
-    number-of-requires
-    is-number-requires
-    number-in-requires
-    returns
-    returns-2
-    returns-3
-    returns-4
-    number-in-requires-2
-    on-good-requires
-    returns-5)
+    (λ c κs. search needs) (λ c κs. search needs) (λ c κs. search needs) returns returns-2 returns-3 returns-4 (λ c κs. search needs)
+    (λ c κs. search needs) returns-5)

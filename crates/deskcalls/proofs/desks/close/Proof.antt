@@ -5,15 +5,6 @@ use borrow.Author.Needs.{needs}
 use Rattle.deskcalls.proofs.desks.close.Statement.{statement}
 use Rattle.deskcalls.proofs.desks.close.Tie as tie
 
-of-outcome-requires : tie.Need-of-outcome-requires
-of-outcome-requires c κs = search needs
-
-save-requires : tie.Need-save-requires
-save-requires c κs = search needs
-
-same-length : tie.Need-same-length
-same-length c = search needs
-
 returns : tie.Need-returns
 unfolding stepped deskAfter
 returns c =
@@ -26,4 +17,4 @@ unfolding stepped deskAfter
 returns-2 c = rw (← (c .before .before .of-outcome .ensures), ne-eqb _ _ (c .if1 .left))
 
 pub close-spec : {M : Type 1} → statement M
-close-spec = tie.close (tie.spec of-outcome-requires save-requires same-length returns returns-2)
+close-spec = tie.close (tie.spec (λ c κs. search needs) (λ c κs. search needs) (λ c. search needs) returns returns-2)

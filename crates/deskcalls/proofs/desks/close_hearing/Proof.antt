@@ -5,21 +5,6 @@ use borrow.Author.Needs.{needs}
 use Rattle.deskcalls.proofs.desks.close_hearing.Statement.{statement}
 use Rattle.deskcalls.proofs.desks.close_hearing.Tie as tie
 
-of-heard-requires : tie.Need-of-heard-requires
-of-heard-requires c κs = search needs
-
-put-told-requires : tie.Need-put-told-requires
-put-told-requires c κs = search needs
-
-save-requires : tie.Need-save-requires
-save-requires c κs = search needs
-
-same-length : tie.Need-same-length
-same-length c = search needs
-
-same-length-2 : tie.Need-same-length-2
-same-length-2 c = search needs
-
 returns : tie.Need-returns
 unfolding heardParts deskAfter
 returns c =
@@ -27,9 +12,6 @@ returns c =
     let put-told = c .before .before .before .before .before .before .before .before .put-told in
     let if1 = c .before .before .before .before .before .if1 in
     rw (c .before .before .save .ensures, put-told .ensures, ← (of-heard .ensures), eq-eqb _ _ (if1 .taken))
-
-same-length-3 : tie.Need-same-length-3
-same-length-3 c = search needs
 
 returns-2 : tie.Need-returns-2
 unfolding heardParts deskAfter
@@ -39,11 +21,5 @@ pub close-hearing-spec : {M : Type 1} → statement M
 close-hearing-spec =
     tie.close
     (tie.spec
-    of-heard-requires
-    put-told-requires
-    save-requires
-    same-length
-    same-length-2
-    returns
-    same-length-3
+    (λ c κs. search needs) (λ c κs. search needs) (λ c κs. search needs) (λ c. search needs) (λ c. search needs) returns (λ c. search needs)
     returns-2)

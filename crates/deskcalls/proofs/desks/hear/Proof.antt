@@ -5,21 +5,6 @@ use borrow.Author.Needs.{needs}
 use Rattle.deskcalls.proofs.desks.hear.Statement.{statement}
 use Rattle.deskcalls.proofs.desks.hear.Tie as tie
 
-load-requires : tie.Need-load-requires
-load-requires c κs = search needs
-
-slice-aggregate-hear : tie.Need-slice-aggregate-hear
-slice-aggregate-hear c = search needs
-
-hear-requires : tie.Need-hear-requires
-hear-requires c κs = search needs
-
-of-heard-requires : tie.Need-of-heard-requires
-of-heard-requires c κs = search needs
-
-same-length : tie.Need-same-length
-same-length c = search needs
-
 returns : tie.Need-returns
 returns c =
     let a = c .before .before .before .before .before .before .before .before .before .before .before .args in
@@ -27,21 +12,6 @@ returns c =
     let if1 = c .before .before .before .before .if1 in
     desk-refuses (now (a .state)) (a .time) (now (a .frame)) (now (a .block)) (now (a .out)) _ _ _ _ _ (load .ensures) (if1 .taken)
     (c .before .before .hear .ensures) (c .of-heard .ensures)
-
-hear-requires-2 : tie.Need-hear-requires-2
-hear-requires-2 c κs = search needs
-
-close-hearing-requires : tie.Need-close-hearing-requires
-close-hearing-requires c κs = search needs
-
-same-length-2 : tie.Need-same-length-2
-same-length-2 c = search needs
-
-same-length-3 : tie.Need-same-length-3
-same-length-3 c = search needs
-
-same-length-4 : tie.Need-same-length-4
-same-length-4 c = search needs
 
 returns-2 : tie.Need-returns-2
 returns-2 c =
@@ -57,15 +27,5 @@ pub hear-spec : {M : Type 1} → statement M
 hear-spec =
     tie.close
     (tie.spec
-    load-requires
-    slice-aggregate-hear
-    hear-requires
-    of-heard-requires
-    same-length
-    returns
-    hear-requires-2
-    close-hearing-requires
-    same-length-2
-    same-length-3
-    same-length-4
-    returns-2)
+    (λ c κs. search needs) (λ c. search needs) (λ c κs. search needs) (λ c κs. search needs) (λ c. search needs) returns (λ c κs. search needs)
+    (λ c κs. search needs) (λ c. search needs) (λ c. search needs) (λ c. search needs) returns-2)

@@ -3,21 +3,6 @@ use borrow.Author.Needs.{needs}
 use Rattle.deskcalls.proofs.desks.key.Statement.{statement}
 use Rattle.deskcalls.proofs.desks.key.Tie as tie
 
-load-requires : tie.Need-load-requires
-load-requires c κs = search needs
-
-byte-or-requires : tie.Need-byte-or-requires
-byte-or-requires c κs = search needs
-
-turn-key-requires : tie.Need-turn-key-requires
-turn-key-requires c κs = search needs
-
-close-requires : tie.Need-close-requires
-close-requires c κs = search needs
-
-same-length : tie.Need-same-length
-same-length c = search needs
-
 returns : tie.Need-returns
 returns c =
     let load = c .before .before .before .before .before .before .load in
@@ -28,4 +13,4 @@ returns c =
 pub key-spec : {M : Type 1} → statement M
 key-spec =
     tie.close
-    (tie.spec load-requires byte-or-requires turn-key-requires close-requires same-length returns)
+    (tie.spec (λ c κs. search needs) (λ c κs. search needs) (λ c κs. search needs) (λ c κs. search needs) (λ c. search needs) returns)

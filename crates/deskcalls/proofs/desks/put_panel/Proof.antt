@@ -5,15 +5,6 @@ use borrow.Author.Needs.{needs}
 use Rattle.deskcalls.proofs.desks.put_panel.Statement.{statement}
 use Rattle.deskcalls.proofs.desks.put_panel.Tie as tie
 
-enum-known-source : tie.Need-enum-known-source
-enum-known-source c = search needs
-
-put-record-requires : tie.Need-put-record-requires
-put-record-requires c κs = search needs
-
-same-length : tie.Need-same-length
-same-length c = search needs
-
 returns : tie.Need-returns
 returns c = rw (c .before .before .before .before .before .source .given .1) (c .before .before .put-record .ensures)
 
@@ -22,4 +13,4 @@ returns-2 c = other-source (c .before .before .args .source) (now (c .before .be
 
 pub put-panel-spec : {M : Type 1} → statement M
 put-panel-spec =
-    tie.close (tie.spec enum-known-source put-record-requires same-length returns returns-2)
+    tie.close (tie.spec (λ c. search needs) (λ c κs. search needs) (λ c. search needs) returns returns-2)

@@ -5,15 +5,6 @@ use borrow.Author.Needs.{needs}
 use Rattle.deskcalls.proofs.desks.put_told.Statement.{statement}
 use Rattle.deskcalls.proofs.desks.put_told.Tie as tie
 
-enum-known-answer : tie.Need-enum-known-answer
-enum-known-answer c = search needs
-
-put-panel-requires : tie.Need-put-panel-requires
-put-panel-requires c κs = search needs
-
-same-length : tie.Need-same-length
-same-length c = search needs
-
 returns : tie.Need-returns
 returns c = rw (c .before .before .before .before .before .answer .given .1) (c .before .before .put-panel .ensures)
 
@@ -22,4 +13,4 @@ returns-2 c = other-heard (c .before .before .args .answer) (now (c .before .bef
 
 pub put-told-spec : {M : Type 1} → statement M
 put-told-spec =
-    tie.close (tie.spec enum-known-answer put-panel-requires same-length returns returns-2)
+    tie.close (tie.spec (λ c. search needs) (λ c κs. search needs) (λ c. search needs) returns returns-2)

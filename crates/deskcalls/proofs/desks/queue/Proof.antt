@@ -3,21 +3,6 @@ use borrow.Author.Needs.{needs}
 use Rattle.deskcalls.proofs.desks.queue.Statement.{statement}
 use Rattle.deskcalls.proofs.desks.queue.Tie as tie
 
-load-requires : tie.Need-load-requires
-load-requires c κs = search needs
-
-meaning-requires : tie.Need-meaning-requires
-meaning-requires c κs = search needs
-
-queue-requires : tie.Need-queue-requires
-queue-requires c κs = search needs
-
-close-requires : tie.Need-close-requires
-close-requires c κs = search needs
-
-same-length : tie.Need-same-length
-same-length c = search needs
-
 returns : tie.Need-returns
 returns c =
     let load = c .before .before .before .before .before .before .load in
@@ -28,4 +13,4 @@ returns c =
 pub queue-spec : {M : Type 1} → statement M
 queue-spec =
     tie.close
-    (tie.spec load-requires meaning-requires queue-requires close-requires same-length returns)
+    (tie.spec (λ c κs. search needs) (λ c κs. search needs) (λ c κs. search needs) (λ c κs. search needs) (λ c. search needs) returns)

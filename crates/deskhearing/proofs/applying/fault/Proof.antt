@@ -7,15 +7,6 @@ use borrow.Author.Needs.{needs}
 use Rattle.deskhearing.proofs.applying.fault.Statement.{statement}
 use Rattle.deskhearing.proofs.applying.fault.Tie as tie
 
-cast-t6 : tie.Need-cast-t6
-cast-t6 c = search needs
-
-send-requires : tie.Need-send-requires
-send-requires c κs = search needs
-
-same-length : tie.Need-same-length
-same-length c = search needs
-
 returns : tie.Need-returns
 returns c =
     let s = c .before .before .before .before .before in
@@ -25,4 +16,4 @@ returns c =
     fault-sent (a .desk) (a .lost) (a .number) (now (a .out)) _ _ e
 
 pub fault-spec : {M : Type 1} → statement M
-fault-spec = tie.close (tie.spec cast-t6 send-requires same-length returns)
+fault-spec = tie.close (tie.spec (λ c. search needs) (λ c κs. search needs) (λ c. search needs) returns)

@@ -22,15 +22,6 @@ eight s = sym (length-map (s .args .desk .queue) _) ∙ s .good .0 .1 .1 .1 .1 .
 permitted : (s : tie.Start) → permitsRecord (s .args .desk .line) (replyTo (s .args .desk) (matterOf (s .args .matter)) .0) ≡ true
 permitted s = answer-permitted (s .args .desk) (eight s) (ranges-parts (s .args .desk) (s .pre .0)) (matterOf (s .args .matter))
 
-reply-requires : tie.Need-reply-requires
-reply-requires c κs = search needs
-
-send-requires : tie.Need-send-requires
-send-requires c κs = search needs
-
-mark-requires : tie.Need-mark-requires
-mark-requires c κs = search needs
-
 slice-reshare-prefix-store : tie.Need-slice-reshare-prefix-store
 slice-reshare-prefix-store c =
     let s = c .before .before .before .before .before .before .before in
@@ -52,9 +43,6 @@ store-requires c κs =
     let p = reply-record (a .desk) (matterOf (a .matter)) (permitted s) _ _ (c .before .before .before .before .before .before .reply .ensures) in
     front-most (a .desk .line) _ (a .number) (now (a .out)) p (s .pre .1) (s .pre .2) _ _ (c .before .before .before .before .send .ensures)
 
-same-length : tie.Need-same-length
-same-length c = search needs
-
 returns : tie.Need-returns
 returns c =
     let s = c .before .before .before .before .before .before .before .before .before in
@@ -68,11 +56,5 @@ pub handle-spec : {M : Type 1} → statement M
 handle-spec =
     tie.close
     (tie.spec
-    reply-requires
-    send-requires
-    mark-requires
-    slice-reshare-prefix-store
-    slice-aggregate-store
-    store-requires
-    same-length
-    returns)
+    (λ c κs. search needs) (λ c κs. search needs) (λ c κs. search needs) slice-reshare-prefix-store slice-aggregate-store store-requires
+    (λ c. search needs) returns)

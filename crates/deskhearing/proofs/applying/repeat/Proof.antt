@@ -29,9 +29,6 @@ copy-requires c κs = let a = c .before .before .before .before .args in
     let k : a .desk .kept ≤ 66 = kept-most _ _ (ranges-parts (a .desk) (c .before .before .before .before .pre .0) .stocked) in
     omega (arith, c .before .before .before .before .pre .1, length-take-le (a .desk .kept) (a .desk .stored) (omega arith))
 
-same-length : tie.Need-same-length
-same-length c = search needs
-
 returns : tie.Need-returns
 returns c = let a = c .before .before .before .before .before .before .before .args in
     repeat-sent (a .desk) (now (a .out)) _ _ (c .before .before .copy .ensures .0) (c .before .before .copy .ensures .1)
@@ -39,4 +36,4 @@ returns c = let a = c .before .before .before .before .before .before .before .a
 pub repeat-spec : {M : Type 1} → statement M
 repeat-spec =
     tie.close
-    (tie.spec array-share-prefix-stored slice-aggregate-copy copy-requires same-length returns)
+    (tie.spec array-share-prefix-stored slice-aggregate-copy copy-requires (λ c. search needs) returns)

@@ -8,20 +8,11 @@ use borrow.Author.Needs.{needs}
 use Rattle.deskhearing.proofs.hearing.hear.Statement.{statement}
 use Rattle.deskhearing.proofs.hearing.hear.Tie as tie
 
-in-ranges-requires : tie.Need-in-ranges-requires
-in-ranges-requires c κs = search needs
-
-refused-requires : tie.Need-refused-requires
-refused-requires c κs = search needs
-
 returns : tie.Need-returns
 returns c =
     let a = c .before .before .before .before .before .args in
     let r = sym (c .before .before .in-ranges .ensures) ∙ not-true _ (c .before .if1 .taken) in
     ap (λ (s : Hearing). stepped s (now (a .out))) (c .refused .ensures) ∙ hear-state (a .desk) (a .at) (now (a .frame)) (now (a .out)) r
-
-refused-requires-2 : tie.Need-refused-requires-2
-refused-requires-2 c κs = search needs
 
 returns-2 : tie.Need-returns-2
 returns-2 c =
@@ -30,14 +21,8 @@ returns-2 c =
     ap (λ (s : Hearing). stepped s (now (a .out))) (c .refused2 .ensures)
     ∙ hear-room (a .desk) (a .at) (now (a .frame)) (now (a .out)) r (c .before .if2 .taken)
 
-loses-requires : tie.Need-loses-requires
-loses-requires c κs = search needs
-
 settle-requires : tie.Need-settle-requires
 settle-requires c κs = (sym (c .before .before .before .before .in-ranges .ensures) ∙ not-false _ (c .before .before .before .if1 .left), c .before .before .if2 .left)
-
-same-length : tie.Need-same-length
-same-length c = search needs
 
 returns-3 : tie.Need-returns-3
 returns-3 c =
@@ -50,12 +35,5 @@ pub hear-spec : {M : Type 1} → statement M
 hear-spec =
     tie.close
     (tie.spec
-    in-ranges-requires
-    refused-requires
-    returns
-    refused-requires-2
-    returns-2
-    loses-requires
-    settle-requires
-    same-length
+    (λ c κs. search needs) (λ c κs. search needs) returns (λ c κs. search needs) returns-2 (λ c κs. search needs) settle-requires (λ c. search needs)
     returns-3)

@@ -8,18 +8,9 @@ use borrow.Author.Needs.{needs}
 use Rattle.deskhearing.proofs.hearing.settle.Statement.{statement}
 use Rattle.deskhearing.proofs.hearing.settle.Tie as tie
 
-noted-requires : tie.Need-noted-requires
-noted-requires c κs = search needs
-
-decide-requires : tie.Need-decide-requires
-decide-requires c κs = search needs
-
 apply-requires : tie.Need-apply-requires
 apply-requires c κs = let s = c .before .before .before .before .before .before in
     (rw (c .before .before .before .noted .ensures) (noted-ranges (s .args .desk) _ (s .pre .0)), rw (c .before .decide .ensures) (ruling-number _ _ _ _), s .pre .1)
-
-same-length : tie.Need-same-length
-same-length c = search needs
 
 returns : tie.Need-returns
 returns c =
@@ -29,4 +20,4 @@ returns c =
     c .before .before .apply .ensures ∙ settle-applied (a .desk) (a .at) (now (a .frame)) (now (a .out)) (a .lost) _ (noted .ensures) _ (decide .ensures)
 
 pub settle-spec : {M : Type 1} → statement M
-settle-spec = tie.close (tie.spec noted-requires decide-requires apply-requires same-length returns)
+settle-spec = tie.close (tie.spec (λ c κs. search needs) (λ c κs. search needs) apply-requires (λ c. search needs) returns)

@@ -72,16 +72,5 @@ pub put-queue-spec : {M : Type 1} → statement M
 put-queue-spec =
     tie.close
     (tie.spec
-    Inv-loop
-    μ-loop
-    loop-holds
-    same-length
-    returns
-    mul-waiting
-    array-copy-out-waiting
-    put-waiting-requires
-    add-j
-    loop-less
-    loop-again
-    same-length-2
+    Inv-loop μ-loop loop-holds same-length returns mul-waiting array-copy-out-waiting put-waiting-requires add-j loop-less loop-again same-length-2
     returns-2)

@@ -5,18 +5,6 @@ use borrow.Author.Needs.{needs}
 use Rattle.deskprints.proofs.printing.put_stepped.Statement.{statement}
 use Rattle.deskprints.proofs.printing.put_stepped.Tie as tie
 
-begin-requires : tie.Need-begin-requires
-begin-requires c κs = search needs
-
-put-outcome-requires : tie.Need-put-outcome-requires
-put-outcome-requires c κs = search needs
-
-put-numbers-requires : tie.Need-put-numbers-requires
-put-numbers-requires c κs = search needs
-
-same-length : tie.Need-same-length
-same-length c = search needs
-
 returns : tie.Need-returns
 unfolding steppedText
 returns c = search then
@@ -24,4 +12,4 @@ returns c = search then
 pub put-stepped-spec : {M : Type 1} → statement M
 put-stepped-spec =
     tie.close
-    (tie.spec begin-requires put-outcome-requires put-numbers-requires same-length returns)
+    (tie.spec (λ c κs. search needs) (λ c κs. search needs) (λ c κs. search needs) (λ c. search needs) returns)

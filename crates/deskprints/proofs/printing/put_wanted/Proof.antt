@@ -6,27 +6,9 @@ use borrow.Author.Needs.{needs}
 use Rattle.deskprints.proofs.printing.put_wanted.Statement.{statement}
 use Rattle.deskprints.proofs.printing.put_wanted.Tie as tie
 
-enum-told : tie.Need-enum-told
-enum-told c = search needs
-
-enum-known-wanted : tie.Need-enum-known-wanted
-enum-known-wanted c = search needs
-
-slice-aggregate-put-text : tie.Need-slice-aggregate-put-text
-slice-aggregate-put-text c = search needs
-
-put-text-requires : tie.Need-put-text-requires
-put-text-requires c κs = search needs
-
-put-record-requires : tie.Need-put-record-requires
-put-record-requires c κs = search needs
-
 returns : tie.Need-returns
 unfolding puts
 returns c = rw (c .enum-told .given .1)
-
-same-length : tie.Need-same-length
-same-length c = search needs
 
 returns-2 : tie.Need-returns-2
 unfolding setText
@@ -39,11 +21,4 @@ pub put-wanted-spec : {M : Type 1} → statement M
 put-wanted-spec =
     tie.close
     (tie.spec
-    enum-told
-    enum-known-wanted
-    slice-aggregate-put-text
-    put-text-requires
-    put-record-requires
-    returns
-    same-length
-    returns-2)
+    (λ c. search needs) (λ c. search needs) (λ c. search needs) (λ c κs. search needs) (λ c κs. search needs) returns (λ c. search needs) returns-2)

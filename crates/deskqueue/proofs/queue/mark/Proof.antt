@@ -6,11 +6,8 @@ use borrow.Author.Needs.{needs}
 use Rattle.deskqueue.proofs.queue.mark.Statement.{statement}
 use Rattle.deskqueue.proofs.queue.mark.Tie as tie
 
-without-requires : tie.Need-without-requires
-without-requires c κs = search needs
-
 returns : tie.Need-returns
 returns c = let a = c .before .args in ap (λ (d : Desk). restarted (marked d (a .number)) (a .at)) (c .without .ensures)
 
 pub mark-spec : {M : Type 1} → statement M
-mark-spec = tie.close (tie.spec without-requires returns)
+mark-spec = tie.close (tie.spec (λ c κs. search needs) returns)

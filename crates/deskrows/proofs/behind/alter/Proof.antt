@@ -4,18 +4,6 @@ use borrow.Author.Needs.{needs}
 use Rattle.deskrows.proofs.behind.alter.Statement.{statement}
 use Rattle.deskrows.proofs.behind.alter.Tie as tie
 
-word-value-requires : tie.Need-word-value-requires
-word-value-requires c κs = search needs
-
-altered-requires : tie.Need-altered-requires
-altered-requires c κs = search needs
-
-put-altered-requires : tie.Need-put-altered-requires
-put-altered-requires c κs = search needs
-
-same-length : tie.Need-same-length
-same-length c = search needs
-
 returns : tie.Need-returns
 unfolding alteringRow
 returns c = rw (c .before .before .put-altered .ensures, c .before .before .before .before .before .altered .ensures, c .before .before .before .before .before .before .word-value .ensures)
@@ -23,4 +11,4 @@ returns c = rw (c .before .before .put-altered .ensures, c .before .before .befo
 pub alter-spec : {M : Type 1} → statement M
 alter-spec =
     tie.close
-    (tie.spec word-value-requires altered-requires put-altered-requires same-length returns)
+    (tie.spec (λ c κs. search needs) (λ c κs. search needs) (λ c κs. search needs) (λ c. search needs) returns)

@@ -8,21 +8,6 @@ use borrow.Author.Needs.{needs}
 use Rattle.deskrows.proofs.behind.hear.Statement.{statement}
 use Rattle.deskrows.proofs.behind.hear.Tie as tie
 
-room-requires : tie.Need-room-requires
-room-requires c κs = search needs
-
-slice-aggregate-meant : tie.Need-slice-aggregate-meant
-slice-aggregate-meant c = search needs
-
-meant-requires : tie.Need-meant-requires
-meant-requires c κs = search needs
-
-slice-aggregate-part : tie.Need-slice-aggregate-part
-slice-aggregate-part c = search needs
-
-part-requires : tie.Need-part-requires
-part-requires c κs = search needs
-
 array-borrow-prefix-sent : tie.Need-array-borrow-prefix-sent
 array-borrow-prefix-sent c =
     let room = c .before .before .before .before .before .room .ensures in
@@ -34,12 +19,6 @@ slice-aggregate-hear-frame c =
     let room = c .before .before .before .before .before .before .room .ensures in
     let most = room-most (c .before .before .before .before .before .before .before .before .before .args .row .now) in
     sym (length-take-le _ _ (omega (arith, room, most)))
-
-hear-frame-requires : tie.Need-hear-frame-requires
-hear-frame-requires c κs = search needs
-
-same-length : tie.Need-same-length
-same-length c = search needs
 
 returns : tie.Need-returns
 returns c =
@@ -53,13 +32,5 @@ pub hear-spec : {M : Type 1} → statement M
 hear-spec =
     tie.close
     (tie.spec
-    room-requires
-    slice-aggregate-meant
-    meant-requires
-    slice-aggregate-part
-    part-requires
-    array-borrow-prefix-sent
-    slice-aggregate-hear-frame
-    hear-frame-requires
-    same-length
-    returns)
+    (λ c κs. search needs) (λ c. search needs) (λ c κs. search needs) (λ c. search needs) (λ c κs. search needs) array-borrow-prefix-sent
+    slice-aggregate-hear-frame (λ c κs. search needs) (λ c. search needs) returns)

@@ -9,21 +9,6 @@ use borrow.Author.Needs.{needs}
 use Rattle.deskrows.proofs.behind.key_at.Statement.{statement}
 use Rattle.deskrows.proofs.behind.key_at.Tie as tie
 
-slice-aggregate-meant : tie.Need-slice-aggregate-meant
-slice-aggregate-meant c = search needs
-
-meant-requires : tie.Need-meant-requires
-meant-requires c κs = search needs
-
-slice-aggregate-part : tie.Need-slice-aggregate-part
-slice-aggregate-part c = search needs
-
-part-requires : tie.Need-part-requires
-part-requires c κs = search needs
-
-byte-at-requires : tie.Need-byte-at-requires
-byte-at-requires c κs = search needs
-
 returns : tie.Need-returns
 unfolding keyAt
 returns c =
@@ -34,9 +19,4 @@ pub key-at-spec : {M : Type 1} → statement M
 key-at-spec =
     tie.close
     (tie.spec
-    slice-aggregate-meant
-    meant-requires
-    slice-aggregate-part
-    part-requires
-    byte-at-requires
-    returns)
+    (λ c. search needs) (λ c κs. search needs) (λ c. search needs) (λ c κs. search needs) (λ c κs. search needs) returns)

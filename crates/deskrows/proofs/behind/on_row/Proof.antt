@@ -4,18 +4,9 @@ use borrow.Author.Needs.{needs}
 use Rattle.deskrows.proofs.behind.on_row.Statement.{statement}
 use Rattle.deskrows.proofs.behind.on_row.Tie as tie
 
-call-of-requires : tie.Need-call-of-requires
-call-of-requires c κs = search needs
-
-on-call-requires : tie.Need-on-call-requires
-on-call-requires c κs = search needs
-
-same-length : tie.Need-same-length
-same-length c = search needs
-
 returns : tie.Need-returns
 unfolding onRow
 returns c = rw (c .before .before .on-call .ensures, c .before .before .before .before .call-of .ensures)
 
 pub on-row-spec : {M : Type 1} → statement M
-on-row-spec = tie.close (tie.spec call-of-requires on-call-requires same-length returns)
+on-row-spec = tie.close (tie.spec (λ c κs. search needs) (λ c κs. search needs) (λ c. search needs) returns)

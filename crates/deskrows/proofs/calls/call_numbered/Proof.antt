@@ -5,9 +5,6 @@ use borrow.Author.Needs.{needs}
 use Rattle.deskrows.proofs.calls.call_numbered.Statement.{statement}
 use Rattle.deskrows.proofs.calls.call_numbered.Tie as tie
 
-alter-numbered-requires : tie.Need-alter-numbered-requires
-alter-numbered-requires c κs = search needs
-
 returns : tie.Need-returns
 unfolding callNumbered
 returns c = rw (c .match .keys1)
@@ -51,13 +48,4 @@ pub call-numbered-spec : {M : Type 1} → statement M
 call-numbered-spec =
     tie.close
     (tie.spec
-    alter-numbered-requires
-    returns
-    returns-2
-    returns-3
-    returns-4
-    returns-5
-    returns-6
-    returns-7
-    returns-8
-    returns-9)
+    (λ c κs. search needs) returns returns-2 returns-3 returns-4 returns-5 returns-6 returns-7 returns-8 returns-9)

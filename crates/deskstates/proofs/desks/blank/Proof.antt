@@ -7,12 +7,9 @@ use borrow.Author.Needs.{needs}
 use Rattle.deskstates.proofs.desks.blank.Statement.{statement}
 use Rattle.deskstates.proofs.desks.blank.Tie as tie
 
-start-requires : tie.Need-start-requires
-start-requires c κs = search needs
-
 returns : tie.Need-returns
 unfolding startOf
 returns c = ap (λ (y : Desk × Done). y .0) (c .before .start .ensures)
 
 pub blank-spec : {M : Type 1} → statement M
-blank-spec = tie.close (tie.spec start-requires returns)
+blank-spec = tie.close (tie.spec (λ c κs. search needs) returns)

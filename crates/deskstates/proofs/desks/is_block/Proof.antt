@@ -8,18 +8,6 @@ use borrow.Author.Needs.{needs}
 use Rattle.deskstates.proofs.desks.is_block.Statement.{statement}
 use Rattle.deskstates.proofs.desks.is_block.Tie as tie
 
-slice-aggregate-put-desk : tie.Need-slice-aggregate-put-desk
-slice-aggregate-put-desk c = search needs
-
-put-desk-requires : tie.Need-put-desk-requires
-put-desk-requires c κs = search needs
-
-slice-aggregate-same : tie.Need-slice-aggregate-same
-slice-aggregate-same c = search needs
-
-same-requires : tie.Need-same-requires
-same-requires c κs = search needs
-
 returns : tie.Need-returns
 returns c =
     let a = c .before .before .before .before .before .before .args in
@@ -30,8 +18,4 @@ pub is-block-spec : {M : Type 1} → statement M
 is-block-spec =
     tie.close
     (tie.spec
-    slice-aggregate-put-desk
-    put-desk-requires
-    slice-aggregate-same
-    same-requires
-    returns)
+    (λ c. search needs) (λ c κs. search needs) (λ c. search needs) (λ c κs. search needs) returns)

@@ -8,15 +8,6 @@ use borrow.Author.Needs.{needs}
 use Rattle.deskstates.proofs.desks.load.Statement.{statement}
 use Rattle.deskstates.proofs.desks.load.Tie as tie
 
-desk-at-requires : tie.Need-desk-at-requires
-desk-at-requires c κs = search needs
-
-is-block-requires : tie.Need-is-block-requires
-is-block-requires c κs = search needs
-
-blank-requires : tie.Need-blank-requires
-blank-requires c κs = search needs
-
 returns : tie.Need-returns
 returns c =
     loads deskBytes deskAt (fresh 0) (now (c .before .before .before .before .args .block)) _ (c .before .before .desk-at .ensures) (sym (c .if1 .taken) ∙ c .before .is-block .ensures)
@@ -29,4 +20,4 @@ returns-2 c =
 
 pub load-spec : {M : Type 1} → statement M
 load-spec =
-    tie.close (tie.spec desk-at-requires is-block-requires blank-requires returns returns-2)
+    tie.close (tie.spec (λ c κs. search needs) (λ c κs. search needs) (λ c κs. search needs) returns returns-2)

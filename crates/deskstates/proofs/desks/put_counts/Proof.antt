@@ -4,27 +4,6 @@ use borrow.Author.Needs.{needs}
 use Rattle.deskstates.proofs.desks.put_counts.Statement.{statement}
 use Rattle.deskstates.proofs.desks.put_counts.Tie as tie
 
-put-four-requires : tie.Need-put-four-requires
-put-four-requires c κs = search needs
-
-count-byte-requires : tie.Need-count-byte-requires
-count-byte-requires c κs = search needs
-
-put-byte-requires : tie.Need-put-byte-requires
-put-byte-requires c κs = search needs
-
-count-byte-requires-2 : tie.Need-count-byte-requires-2
-count-byte-requires-2 c κs = search needs
-
-put-byte-requires-2 : tie.Need-put-byte-requires-2
-put-byte-requires-2 c κs = search needs
-
-put-byte-requires-3 : tie.Need-put-byte-requires-3
-put-byte-requires-3 c κs = search needs
-
-same-length : tie.Need-same-length
-same-length c = search needs
-
 returns : tie.Need-returns
 returns c =
     let p = c .before .before in
@@ -39,11 +18,5 @@ pub put-counts-spec : {M : Type 1} → statement M
 put-counts-spec =
     tie.close
     (tie.spec
-    put-four-requires
-    count-byte-requires
-    put-byte-requires
-    count-byte-requires-2
-    put-byte-requires-2
-    put-byte-requires-3
-    same-length
-    returns)
+    (λ c κs. search needs) (λ c κs. search needs) (λ c κs. search needs) (λ c κs. search needs) (λ c κs. search needs) (λ c κs. search needs)
+    (λ c. search needs) returns)

@@ -4,21 +4,6 @@ use borrow.Author.Needs.{needs}
 use Rattle.deskstates.proofs.desks.put_desk.Statement.{statement}
 use Rattle.deskstates.proofs.desks.put_desk.Tie as tie
 
-put-head-requires : tie.Need-put-head-requires
-put-head-requires c κs = search needs
-
-set-byte-requires : tie.Need-set-byte-requires
-set-byte-requires c κs = search needs
-
-put-counts-requires : tie.Need-put-counts-requires
-put-counts-requires c κs = search needs
-
-put-kept-requires : tie.Need-put-kept-requires
-put-kept-requires c κs = search needs
-
-same-length : tie.Need-same-length
-same-length c = search needs
-
 returns : tie.Need-returns
 returns c =
     let p = c .before .before in
@@ -33,9 +18,4 @@ pub put-desk-spec : {M : Type 1} → statement M
 put-desk-spec =
     tie.close
     (tie.spec
-    put-head-requires
-    set-byte-requires
-    put-counts-requires
-    put-kept-requires
-    same-length
-    returns)
+    (λ c κs. search needs) (λ c κs. search needs) (λ c κs. search needs) (λ c κs. search needs) (λ c. search needs) returns)

@@ -6,21 +6,6 @@ use borrow.Author.Needs.{needs}
 use Rattle.deskstates.proofs.desks.put_kept.Statement.{statement}
 use Rattle.deskstates.proofs.desks.put_kept.Tie as tie
 
-slice-aggregate-put-text : tie.Need-slice-aggregate-put-text
-slice-aggregate-put-text c = search needs
-
-put-text-requires : tie.Need-put-text-requires
-put-text-requires c κs = search needs
-
-put-wanted-requires : tie.Need-put-wanted-requires
-put-wanted-requires c κs = search needs
-
-put-queue-requires : tie.Need-put-queue-requires
-put-queue-requires c κs = search needs
-
-same-length : tie.Need-same-length
-same-length c = search needs
-
 returns : tie.Need-returns
 unfolding keptBytes
 returns c =
@@ -37,9 +22,4 @@ pub put-kept-spec : {M : Type 1} → statement M
 put-kept-spec =
     tie.close
     (tie.spec
-    slice-aggregate-put-text
-    put-text-requires
-    put-wanted-requires
-    put-queue-requires
-    same-length
-    returns)
+    (λ c. search needs) (λ c κs. search needs) (λ c κs. search needs) (λ c κs. search needs) (λ c. search needs) returns)

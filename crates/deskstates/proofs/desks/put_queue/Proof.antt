@@ -63,14 +63,4 @@ pub put-queue-spec : {M : Type 1} → statement M
 put-queue-spec =
     tie.close
     (tie.spec
-    Inv-loop
-    μ-loop
-    loop-holds
-    mul-waiting
-    array-copy-out-waiting
-    put-block-requires
-    add-i
-    loop-less
-    loop-again
-    same-length
-    returns)
+    Inv-loop μ-loop loop-holds mul-waiting array-copy-out-waiting put-block-requires add-i loop-less loop-again same-length returns)

@@ -58,15 +58,4 @@ pub queue-at-spec : {M : Type 1} → statement M
 queue-at-spec =
     tie.close
     (tie.spec
-    Inv-loop
-    μ-loop
-    loop-holds
-    mul-part
-    part-requires
-    record-at-requires
-    mul-queue
-    array-set-from-queue
-    add-i
-    loop-less
-    loop-again
-    returns)
+    Inv-loop μ-loop loop-holds mul-part part-requires record-at-requires mul-queue array-set-from-queue add-i loop-less loop-again returns)

@@ -6,12 +6,6 @@ use borrow.Author.Needs.{needs}
 use Rattle.deskstates.proofs.desks.save.Statement.{statement}
 use Rattle.deskstates.proofs.desks.save.Tie as tie
 
-put-desk-requires : tie.Need-put-desk-requires
-put-desk-requires c κs = search needs
-
-same-length : tie.Need-same-length
-same-length c = search needs
-
 returns : tie.Need-returns
 returns c =
     let p = c .before .before in
@@ -24,4 +18,4 @@ returns-2 c =
     unfilled deskLength (deskBytes (a .d)) (now (a .block)) (c .if1 .left)
 
 pub save-spec : {M : Type 1} → statement M
-save-spec = tie.close (tie.spec put-desk-requires same-length returns returns-2)
+save-spec = tie.close (tie.spec (λ c κs. search needs) (λ c. search needs) returns returns-2)

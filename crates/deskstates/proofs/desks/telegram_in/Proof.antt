@@ -7,12 +7,6 @@ use borrow.Author.Needs.{needs}
 use Rattle.deskstates.proofs.desks.telegram_in.Statement.{statement}
 use Rattle.deskstates.proofs.desks.telegram_in.Tie as tie
 
-part-requires : tie.Need-part-requires
-part-requires c κs = search needs
-
-slice-aggregate-copy : tie.Need-slice-aggregate-copy
-slice-aggregate-copy c = search needs
-
 copy-requires : tie.Need-copy-requires
 copy-requires c κs = rw (c .before .part .ensures) (most longest (drop 0 (now (c .before .before .before .args .s))))
 
@@ -20,4 +14,4 @@ returns : tie.Need-returns
 returns c = copied (now (c .before .before .before .before .before .args .s)) _ _ (c .before .before .before .part .ensures) (c .before .copy .ensures .1)
 
 pub telegram-in-spec : {M : Type 1} → statement M
-telegram-in-spec = tie.close (tie.spec part-requires slice-aggregate-copy copy-requires returns)
+telegram-in-spec = tie.close (tie.spec (λ c κs. search needs) (λ c. search needs) copy-requires returns)

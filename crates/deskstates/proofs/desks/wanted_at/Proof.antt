@@ -9,12 +9,9 @@ returns : tie.Need-returns
 unfolding wantedAt
 returns c = rw (eq-eqb _ 0 (c .if1 .taken))
 
-record-at-requires : tie.Need-record-at-requires
-record-at-requires c κs = search needs
-
 returns-2 : tie.Need-returns-2
 unfolding wantedAt
 returns-2 c = rw (ne-eqb _ 0 (c .before .if1 .left), c .record-at .ensures)
 
 pub wanted-at-spec : {M : Type 1} → statement M
-wanted-at-spec = tie.close (tie.spec returns record-at-requires returns-2)
+wanted-at-spec = tie.close (tie.spec returns (λ c κs. search needs) returns-2)

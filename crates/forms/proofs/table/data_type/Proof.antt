@@ -6,12 +6,9 @@ use borrow.Author.Needs.{needs}
 use Rattle.forms.proofs.table.data_type.Statement.{statement}
 use Rattle.forms.proofs.table.data_type.Tie as tie
 
-look-requires : tie.Need-look-requires
-look-requires c κs = search needs
-
 returns : tie.Need-returns
 unfolding dataType
 returns c = ap (λ (l : Looked). l .form .kind) (c .look .ensures)
 
 pub data-type-spec : {M : Type 1} → statement M
-data-type-spec = tie.close (tie.spec look-requires returns)
+data-type-spec = tie.close (tie.spec (λ c κs. search needs) returns)

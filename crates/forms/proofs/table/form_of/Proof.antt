@@ -4,19 +4,13 @@ use borrow.Author.Needs.{needs}
 use Rattle.forms.proofs.table.form_of.Statement.{statement}
 use Rattle.forms.proofs.table.form_of.Tie as tie
 
-look-requires : tie.Need-look-requires
-look-requires c κs = search needs
-
 returns : tie.Need-returns
 unfolding formOf
 returns c = rw (← (c .before .look .ensures), c .if1 .taken)
-
-look-requires-2 : tie.Need-look-requires-2
-look-requires-2 c κs = search needs
 
 returns-2 : tie.Need-returns-2
 unfolding typeRow formOf
 returns-2 c = rw (← (c .before .before .look .ensures), c .before .if1 .left) (c .look2 .ensures)
 
 pub form-of-spec : {M : Type 1} → statement M
-form-of-spec = tie.close (tie.spec look-requires returns look-requires-2 returns-2)
+form-of-spec = tie.close (tie.spec (λ c κs. search needs) returns (λ c κs. search needs) returns-2)

@@ -62,15 +62,4 @@ pub look-spec : {M : Type 1} → statement M
 look-spec =
     tie.close
     (tie.spec
-    Inv-loop
-    μ-loop
-    rows-requires
-    loop-holds
-    mul-form
-    array-copy-out-form
-    fits-requires
-    returns
-    add-i
-    loop-less
-    loop-again
-    returns-2)
+    Inv-loop μ-loop rows-requires loop-holds mul-form array-copy-out-form fits-requires returns add-i loop-less loop-again returns-2)

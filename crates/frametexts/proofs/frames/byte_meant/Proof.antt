@@ -8,21 +8,6 @@ use borrow.Author.Needs.{needs}
 use Rattle.frametexts.proofs.frames.byte_meant.Statement.{statement}
 use Rattle.frametexts.proofs.frames.byte_meant.Tie as tie
 
-part-requires : tie.Need-part-requires
-part-requires c κs = search needs
-
-byte-at-requires : tie.Need-byte-at-requires
-byte-at-requires c κs = search needs
-
-byte-at-requires-2 : tie.Need-byte-at-requires-2
-byte-at-requires-2 c κs = search needs
-
-byte-at-requires-3 : tie.Need-byte-at-requires-3
-byte-at-requires-3 c κs = search needs
-
-hex-value-requires : tie.Need-hex-value-requires
-hex-value-requires c κs = search needs
-
 returns : tie.Need-returns
 returns c =
     let part = c .before .before .before .before .before .part in
@@ -33,9 +18,6 @@ returns c =
     escaped _ _ _ _ _ (byte-at .ensures ∙ at 0) (c .before .before .byte-at2 .ensures ∙ at 1) (c .before .byte-at3 .ensures ∙ at 2) (if1 .taken)
     (c .hex-value .ensures)
 
-end-meant-requires : tie.Need-end-meant-requires
-end-meant-requires c κs = search needs
-
 returns-2 : tie.Need-returns-2
 returns-2 c = plain _ _ _ (c .before .before .byte-at .ensures ∙ ap (λ (t : List ℕ). getD t 0 0) (c .before .before .before .part .ensures)) (c .before .if1 .left) (c .end-meant .ensures)
 
@@ -43,11 +25,5 @@ pub byte-meant-spec : {M : Type 1} → statement M
 byte-meant-spec =
     tie.close
     (tie.spec
-    part-requires
-    byte-at-requires
-    byte-at-requires-2
-    byte-at-requires-3
-    hex-value-requires
-    returns
-    end-meant-requires
+    (λ c κs. search needs) (λ c κs. search needs) (λ c κs. search needs) (λ c κs. search needs) (λ c κs. search needs) returns (λ c κs. search needs)
     returns-2)

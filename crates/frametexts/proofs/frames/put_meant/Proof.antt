@@ -54,13 +54,4 @@ pub put-meant-spec : {M : Type 1} → statement M
 put-meant-spec =
     tie.close
     (tie.spec
-    Inv-loop
-    μ-loop
-    loop-holds
-    byte-meant-requires
-    put-byte-requires
-    next-requires
-    loop-less
-    loop-again
-    same-length
-    returns)
+    Inv-loop μ-loop loop-holds byte-meant-requires put-byte-requires next-requires loop-less loop-again same-length returns)

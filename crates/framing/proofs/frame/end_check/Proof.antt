@@ -13,41 +13,8 @@ use borrow.Author.Needs.{needs}
 use Rattle.framing.proofs.frame.end_check.Statement.{statement}
 use Rattle.framing.proofs.frame.end_check.Tie as tie
 
-sub-byte-at : tie.Need-sub-byte-at
-sub-byte-at c = search needs
-
-byte-at-requires : tie.Need-byte-at-requires
-byte-at-requires c κs = search needs
-
-sub-t8 : tie.Need-sub-t8
-sub-t8 c = search needs
-
 returns : tie.Need-returns
 returns c = no-end (now (c .before .before .before .args .s)) (λ e. c .if1 .taken (c .before .byte-at .ensures ∙ e))
-
-sub-part : tie.Need-sub-part
-sub-part c = search needs
-
-part-requires : tie.Need-part-requires
-part-requires c κs = search needs
-
-checksum-requires : tie.Need-checksum-requires
-checksum-requires c κs = search needs
-
-sub-is-two : tie.Need-sub-is-two
-sub-is-two c = search needs
-
-hex-requires : tie.Need-hex-requires
-hex-requires c κs = search needs
-
-hex-requires-2 : tie.Need-hex-requires-2
-hex-requires-2 c κs = search needs
-
-is-two-requires : tie.Need-is-two-requires
-is-two-requires c κs = search needs
-
-sub-t14 : tie.Need-sub-t14
-sub-t14 c = search needs
 
 returns-2 : tie.Need-returns-2
 unfolding summedOf
@@ -64,9 +31,6 @@ returns-2 c =
     ∙ ap (λ (x : List ℕ). isTwo (now (a .s)) (length (now (a .s)) - 3) x)
     (sum-two _ _ _ (hex .ensures) (c .before .before .hex2 .ensures) ∙ ap checkText (checksum .ensures ∙ ap checksumOf (part .ensures))))
     ∙ not-true _ (c .if2 .taken))
-
-byte-at-requires-2 : tie.Need-byte-at-requires-2
-byte-at-requires-2 c κs = search needs
 
 returns-3 : tie.Need-returns-3
 unfolding summedOf
@@ -129,20 +93,6 @@ pub end-check-spec : {M : Type 1} → statement M
 end-check-spec =
     tie.close
     (tie.spec
-    sub-byte-at
-    byte-at-requires
-    sub-t8
-    returns
-    sub-part
-    part-requires
-    checksum-requires
-    sub-is-two
-    hex-requires
-    hex-requires-2
-    is-two-requires
-    sub-t14
-    returns-2
-    byte-at-requires-2
-    returns-3
-    returns-4
-    returns-5)
+    (λ c. search needs) (λ c κs. search needs) (λ c. search needs) returns (λ c. search needs) (λ c κs. search needs) (λ c κs. search needs)
+    (λ c. search needs) (λ c κs. search needs) (λ c κs. search needs) (λ c κs. search needs) (λ c. search needs) returns-2 (λ c κs. search needs)
+    returns-3 returns-4 returns-5)

@@ -11,29 +11,11 @@ use borrow.Author.Needs.{needs}
 use Rattle.framing.proofs.frame.frame_check.Statement.{statement}
 use Rattle.framing.proofs.frame.frame_check.Tie as tie
 
-returns : tie.Need-returns
-returns c = short (now (c .before .before .args .s)) (c .if1 .taken)
-
-returns-2 : tie.Need-returns-2
-returns-2 c = long (now (c .before .before .before .args .s)) (c .before .if1 .left) (c .if2 .taken)
-
-byte-at-requires : tie.Need-byte-at-requires
-byte-at-requires c κs = search needs
-
 returns-3 : tie.Need-returns-3
 returns-3 c =
     let a = c .before .before .before .before .before .args in
     let if1 = c .before .before .before .if1 in
     no-start (now (a .s)) (if1 .left) (c .before .before .if2 .left) (λ e. c .if3 .taken (c .before .byte-at .ensures ∙ e))
-
-count-high-requires : tie.Need-count-high-requires
-count-high-requires c κs = search needs
-
-count-low-requires : tie.Need-count-low-requires
-count-low-requires c κs = search needs
-
-is-two-requires : tie.Need-is-two-requires
-is-two-requires c κs = search needs
 
 returns-4 : tie.Need-returns-4
 returns-4 c =
@@ -48,9 +30,6 @@ returns-4 c =
     (c .before .is-two .ensures
     ∙ ap (λ (x : List ℕ). isTwo (now (a .s)) 1 x) (count-two (length (now (a .s))) _ _ (count-high .ensures) (c .before .before .count-low .ensures)))
     ∙ not-true _ (c .if4 .taken))
-
-end-check-requires : tie.Need-end-check-requires
-end-check-requires c κs = search needs
 
 returns-5 : tie.Need-returns-5
 returns-5 c =
@@ -72,13 +51,6 @@ pub frame-check-spec : {M : Type 1} → statement M
 frame-check-spec =
     tie.close
     (tie.spec
-    returns
-    returns-2
-    byte-at-requires
-    returns-3
-    count-high-requires
-    count-low-requires
-    is-two-requires
-    returns-4
-    end-check-requires
-    returns-5)
+    (λ c. short (now (c .before .before .args .s)) (c .if1 .taken))
+    (λ c. long (now (c .before .before .before .args .s)) (c .before .if1 .left) (c .if2 .taken)) (λ c κs. search needs) returns-3
+    (λ c κs. search needs) (λ c κs. search needs) (λ c κs. search needs) returns-4 (λ c κs. search needs) returns-5)

@@ -5,12 +5,6 @@ use borrow.Author.Needs.{needs}
 use Rattle.gathererstates.proofs.gatherers.count_in.Statement.{statement}
 use Rattle.gathererstates.proofs.gatherers.count_in.Tie as tie
 
-byte-at-requires : tie.Need-byte-at-requires
-byte-at-requires c κs = search needs
-
-wide-requires : tie.Need-wide-requires
-wide-requires c κs = search needs
-
 returns : tie.Need-returns
 unfolding countIn
 returns c = rw (eq-eqb _ _ (c .before .before .if1 .taken), c .wide .ensures .0, c .before .byte-at .ensures)
@@ -20,4 +14,4 @@ unfolding countIn
 returns-2 c = rw (ne-eqb _ _ (c .if1 .left))
 
 pub count-in-spec : {M : Type 1} → statement M
-count-in-spec = tie.close (tie.spec byte-at-requires wide-requires returns returns-2)
+count-in-spec = tie.close (tie.spec (λ c κs. search needs) (λ c κs. search needs) returns returns-2)

@@ -9,22 +9,10 @@ use borrow.Author.Needs.{needs}
 use Rattle.gathererstates.proofs.gatherers.gather_byte.Statement.{statement}
 use Rattle.gathererstates.proofs.gatherers.gather_byte.Tie as tie
 
-count-in-requires : tie.Need-count-in-requires
-count-in-requires c κs = search needs
-
-same-length : tie.Need-same-length
-same-length c = search needs
-
 returns : tie.Need-returns
 returns c =
     let a = c .before .before .before .before .args in
     refused-in (now (a .block)) _ (Byte (a .byte)) (c .before .count-in .ensures) (c .if1 .taken)
-
-turn-of-requires : tie.Need-turn-of-requires
-turn-of-requires c κs = search needs
-
-enum-known-turn : tie.Need-enum-known-turn
-enum-known-turn c = search needs
 
 add-put : tie.Need-add-put
 add-put c =
@@ -43,9 +31,6 @@ put-requires c κs =
     let w = whole (now (l .before .before .before .args .block)) _ (l .count-in .ensures) (t .before .if1 .left) in
     omega (arith, w, joins-at _ _ _ (sym (t .turn-of .ensures) ∙ c .before .before .turn .given .1) .1)
 
-enum-known-turn-2 : tie.Need-enum-known-turn-2
-enum-known-turn-2 c = search needs
-
 put-requires-2 : tie.Need-put-requires-2
 put-requires-2 c κs =
     let t = c .before .before .before .before in
@@ -59,16 +44,10 @@ add-t20 c =
     let t = n .before .before in
     omega (arith, t .before .if1 .left, ends-at _ _ _ (sym (t .turn-of .ensures) ∙ n .turn2 .given .1))
 
-enum-told : tie.Need-enum-told
-enum-told c = search needs
-
 slice-write-block : tie.Need-slice-write-block
 slice-write-block c =
     let l = c .before .before .before .before in
     omega (arith, whole (now (l .before .before .before .args .block)) _ (l .count-in .ensures) (c .before .before .before .if1 .left))
-
-same-length-2 : tie.Need-same-length-2
-same-length-2 c = search needs
 
 returns-2 : tie.Need-returns-2
 returns-2 c =
@@ -79,9 +58,6 @@ returns-2 c =
     joins-in (now (a .block)) _ _ (l .count-in .ensures) (t .before .if1 .left) (a .byte) _
     (sym (t .turn-of .ensures) ∙ n .turn .given .1) (c .before .before .put .ensures)
 
-same-length-3 : tie.Need-same-length-3
-same-length-3 c = search needs
-
 returns-3 : tie.Need-returns-3
 returns-3 c =
     let n = c .before .before .before .before .before in
@@ -90,9 +66,6 @@ returns-3 c =
     let a = l .before .before .before .args in
     ends-in (now (a .block)) _ _ (l .count-in .ensures) (t .before .if1 .left) (a .byte) _
     (sym (t .turn-of .ensures) ∙ n .turn2 .given .1) (c .before .before .put2 .ensures)
-
-same-length-4 : tie.Need-same-length-4
-same-length-4 c = search needs
 
 returns-4 : tie.Need-returns-4
 returns-4 c =
@@ -106,22 +79,6 @@ pub gather-byte-spec : {M : Type 1} → statement M
 gather-byte-spec =
     tie.close
     (tie.spec
-    count-in-requires
-    same-length
-    returns
-    turn-of-requires
-    enum-known-turn
-    add-put
-    cast-put
-    put-requires
-    enum-known-turn-2
-    put-requires-2
-    add-t20
-    enum-told
-    slice-write-block
-    same-length-2
-    returns-2
-    same-length-3
-    returns-3
-    same-length-4
+    (λ c κs. search needs) (λ c. search needs) returns (λ c κs. search needs) (λ c. search needs) add-put cast-put put-requires (λ c. search needs)
+    put-requires-2 add-t20 (λ c. search needs) slice-write-block (λ c. search needs) returns-2 (λ c. search needs) returns-3 (λ c. search needs)
     returns-4)

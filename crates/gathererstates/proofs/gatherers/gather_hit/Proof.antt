@@ -8,20 +8,11 @@ use borrow.Author.Needs.{needs}
 use Rattle.gathererstates.proofs.gatherers.gather_hit.Statement.{statement}
 use Rattle.gathererstates.proofs.gatherers.gather_hit.Tie as tie
 
-count-in-requires : tie.Need-count-in-requires
-count-in-requires c κs = search needs
-
-same-length : tie.Need-same-length
-same-length c = search needs
-
 returns : tie.Need-returns
 returns c = refused-in (now (c .before .before .before .before .args .block)) _ Hit (c .before .count-in .ensures) (c .if1 .taken)
 
 slice-write-block : tie.Need-slice-write-block
 slice-write-block c = omega (arith, whole (now (c .before .before .before .before .args .block)) _ (c .before .count-in .ensures) (c .if1 .left))
-
-same-length-2 : tie.Need-same-length-2
-same-length-2 c = search needs
 
 returns-2 : tie.Need-returns-2
 returns-2 c = hit-in (now (c .before .before .before .before .args .block)) _ _ (c .before .count-in .ensures) (c .if1 .left) refl
@@ -29,4 +20,4 @@ returns-2 c = hit-in (now (c .before .before .before .before .args .block)) _ _ 
 pub gather-hit-spec : {M : Type 1} → statement M
 gather-hit-spec =
     tie.close
-    (tie.spec count-in-requires same-length returns slice-write-block same-length-2 returns-2)
+    (tie.spec (λ c κs. search needs) (λ c. search needs) returns slice-write-block (λ c. search needs) returns-2)

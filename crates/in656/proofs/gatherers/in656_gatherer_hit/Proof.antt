@@ -5,17 +5,8 @@ use borrow.Author.Needs.{needs}
 use Rattle.in656.proofs.gatherers.in656_gatherer_hit.Statement.{statement}
 use Rattle.in656.proofs.gatherers.in656_gatherer_hit.Tie as tie
 
-gather-hit-requires : tie.Need-gather-hit-requires
-gather-hit-requires c κs = search needs
-
-of-gathered-requires : tie.Need-of-gathered-requires
-of-gathered-requires c κs = search needs
-
-same-length : tie.Need-same-length
-same-length c = search needs
-
 returns : tie.Need-returns
 returns c = rw (c .of-gathered .ensures) (ap gathered (c .before .before .before .gather-hit .ensures))
 
 pub in656-gatherer-hit-spec : {M : Type 1} → statement M
-in656-gatherer-hit-spec = tie.close (tie.spec gather-hit-requires of-gathered-requires same-length returns)
+in656-gatherer-hit-spec = tie.close (tie.spec (λ c κs. search needs) (λ c κs. search needs) (λ c. search needs) returns)

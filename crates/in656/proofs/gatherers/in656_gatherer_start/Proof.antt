@@ -5,24 +5,9 @@ use borrow.Author.Needs.{needs}
 use Rattle.in656.proofs.gatherers.in656_gatherer_start.Statement.{statement}
 use Rattle.in656.proofs.gatherers.in656_gatherer_start.Tie as tie
 
-refuse-requires : tie.Need-refuse-requires
-refuse-requires c κs = search needs
-
 returns : tie.Need-returns
 unfolding gathererStart
 returns c = rw (c .refuse .ensures, ne-eqb _ _ (c .before .if1 .taken))
-
-start-requires : tie.Need-start-requires
-start-requires c κs = search needs
-
-save-requires : tie.Need-save-requires
-save-requires c κs = search needs
-
-done-requires : tie.Need-done-requires
-done-requires c κs = search needs
-
-same-length : tie.Need-same-length
-same-length c = search needs
 
 returns-2 : tie.Need-returns-2
 unfolding gathererStart
@@ -36,10 +21,4 @@ pub in656-gatherer-start-spec : {M : Type 1} → statement M
 in656-gatherer-start-spec =
     tie.close
     (tie.spec
-    refuse-requires
-    returns
-    start-requires
-    save-requires
-    done-requires
-    same-length
-    returns-2)
+    (λ c κs. search needs) returns (λ c κs. search needs) (λ c κs. search needs) (λ c κs. search needs) (λ c. search needs) returns-2)

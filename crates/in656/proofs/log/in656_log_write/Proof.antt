@@ -4,27 +4,6 @@ use borrow.Author.Needs.{needs}
 use Rattle.in656.proofs.log.in656_log_write.Statement.{statement}
 use Rattle.in656.proofs.log.in656_log_write.Tie as tie
 
-mark-in-requires : tie.Need-mark-in-requires
-mark-in-requires c κs = search needs
-
-enum-known-known : tie.Need-enum-known-known
-enum-known-known c = search needs
-
-write-record-requires : tie.Need-write-record-requires
-write-record-requires c κs = search needs
-
-of-writing-requires : tie.Need-of-writing-requires
-of-writing-requires c κs = search needs
-
-enum-told : tie.Need-enum-told
-enum-told c = search needs
-
-refuse-requires : tie.Need-refuse-requires
-refuse-requires c κs = search needs
-
-same-length : tie.Need-same-length
-same-length c = search needs
-
 returns : tie.Need-returns
 returns c =
     let mark-in = c .before .before .before .before .before .before .before .before .mark-in in
@@ -39,12 +18,5 @@ pub in656-log-write-spec : {M : Type 1} → statement M
 in656-log-write-spec =
     tie.close
     (tie.spec
-    mark-in-requires
-    enum-known-known
-    write-record-requires
-    of-writing-requires
-    enum-told
-    refuse-requires
-    same-length
-    returns
-    returns-2)
+    (λ c κs. search needs) (λ c. search needs) (λ c κs. search needs) (λ c κs. search needs) (λ c. search needs) (λ c κs. search needs)
+    (λ c. search needs) returns returns-2)

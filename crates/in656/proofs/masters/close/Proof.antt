@@ -5,15 +5,6 @@ use borrow.Author.Needs.{needs}
 use Rattle.in656.proofs.masters.close.Statement.{statement}
 use Rattle.in656.proofs.masters.close.Tie as tie
 
-of-answer-requires : tie.Need-of-answer-requires
-of-answer-requires c κs = search needs
-
-save-requires : tie.Need-save-requires
-save-requires c κs = search needs
-
-same-length : tie.Need-same-length
-same-length c = search needs
-
 returns : tie.Need-returns
 unfolding stepped masterAfter
 returns c = rw (c .before .before .save .ensures, ← (c .before .before .before .before .before .before .before .of-answer .ensures), eq-eqb _ _ (c .before .before .before .before .before .if1 .taken))
@@ -23,4 +14,4 @@ unfolding stepped masterAfter
 returns-2 c = rw (← (c .before .before .of-answer .ensures), ne-eqb _ _ (c .if1 .left))
 
 pub close-spec : {M : Type 1} → statement M
-close-spec = tie.close (tie.spec of-answer-requires save-requires same-length returns returns-2)
+close-spec = tie.close (tie.spec (λ c κs. search needs) (λ c κs. search needs) (λ c. search needs) returns returns-2)

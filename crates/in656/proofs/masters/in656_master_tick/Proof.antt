@@ -4,21 +4,6 @@ use borrow.Author.Needs.{needs}
 use Rattle.in656.proofs.masters.in656_master_tick.Statement.{statement}
 use Rattle.in656.proofs.masters.in656_master_tick.Tie as tie
 
-load-requires : tie.Need-load-requires
-load-requires c κs = search needs
-
-tick-requires : tie.Need-tick-requires
-tick-requires c κs = search needs
-
-close-requires : tie.Need-close-requires
-close-requires c κs = search needs
-
-same-length : tie.Need-same-length
-same-length c = search needs
-
-same-length-2 : tie.Need-same-length-2
-same-length-2 c = search needs
-
 returns : tie.Need-returns
 returns c =
     let load = c .before .before .before .before .before .before .before .before .load in
@@ -28,4 +13,4 @@ returns c =
 pub in656-master-tick-spec : {M : Type 1} → statement M
 in656-master-tick-spec =
     tie.close
-    (tie.spec load-requires tick-requires close-requires same-length same-length-2 returns)
+    (tie.spec (λ c κs. search needs) (λ c κs. search needs) (λ c κs. search needs) (λ c. search needs) (λ c. search needs) returns)

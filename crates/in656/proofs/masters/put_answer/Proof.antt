@@ -5,26 +5,8 @@ use borrow.Author.Needs.{needs}
 use Rattle.in656.proofs.masters.put_answer.Statement.{statement}
 use Rattle.in656.proofs.masters.put_answer.Tie as tie
 
-enum-known-answer : tie.Need-enum-known-answer
-enum-known-answer c = search needs
-
-put-record-requires : tie.Need-put-record-requires
-put-record-requires c κs = search needs
-
-enum-known-answer-2 : tie.Need-enum-known-answer-2
-enum-known-answer-2 c = search needs
-
-fill-requires : tie.Need-fill-requires
-fill-requires c κs = search needs
-
-same-length : tie.Need-same-length
-same-length c = search needs
-
 returns : tie.Need-returns
 returns c = rw (c .before .before .before .before .before .answer .given .1) (c .before .before .put-record .ensures)
-
-same-length-2 : tie.Need-same-length-2
-same-length-2 c = search needs
 
 returns-2 : tie.Need-returns-2
 returns-2 c = rw (c .before .before .before .before .before .answer2 .given .1) (c .before .before .fill .ensures)
@@ -36,12 +18,5 @@ pub put-answer-spec : {M : Type 1} → statement M
 put-answer-spec =
     tie.close
     (tie.spec
-    enum-known-answer
-    put-record-requires
-    enum-known-answer-2
-    fill-requires
-    same-length
-    returns
-    same-length-2
-    returns-2
+    (λ c. search needs) (λ c κs. search needs) (λ c. search needs) (λ c κs. search needs) (λ c. search needs) returns (λ c. search needs) returns-2
     returns-3)

@@ -6,21 +6,9 @@ use borrow.Author.Needs.{needs}
 use Rattle.in656.proofs.telegrams.in656_read.Statement.{statement}
 use Rattle.in656.proofs.telegrams.in656_read.Tie as tie
 
-byte-or-requires : tie.Need-byte-or-requires
-byte-or-requires c κs = search needs
-
-is-line-requires : tie.Need-is-line-requires
-is-line-requires c κs = search needs
-
-refuse-requires : tie.Need-refuse-requires
-refuse-requires c κs = search needs
-
 returns : tie.Need-returns
 unfolding readCall
 returns c = rw (c .refuse .ensures, ← (c .before .before .before .byte-or .ensures), ← (c .before .before .is-line .ensures), not-true (c .before .before .is-line .result) (c .before .if1 .taken))
-
-refuse-requires-2 : tie.Need-refuse-requires-2
-refuse-requires-2 c κs = search needs
 
 returns-2 : tie.Need-returns-2
 unfolding readCall
@@ -34,18 +22,6 @@ returns-2 c =
       not-false (is-line .result) (c .before .before .if1 .left),
       ne-eqb _ _ (c .before .if2 .taken),
     )
-
-read-requires : tie.Need-read-requires
-read-requires c κs = search needs
-
-fill-requires : tie.Need-fill-requires
-fill-requires c κs = search needs
-
-of-reading-requires : tie.Need-of-reading-requires
-of-reading-requires c κs = search needs
-
-same-length : tie.Need-same-length
-same-length c = search needs
 
 returns-3 : tie.Need-returns-3
 unfolding readCall
@@ -70,14 +46,5 @@ pub in656-read-spec : {M : Type 1} → statement M
 in656-read-spec =
     tie.close
     (tie.spec
-    byte-or-requires
-    is-line-requires
-    refuse-requires
-    returns
-    refuse-requires-2
-    returns-2
-    read-requires
-    fill-requires
-    of-reading-requires
-    same-length
-    returns-3)
+    (λ c κs. search needs) (λ c κs. search needs) (λ c κs. search needs) returns (λ c κs. search needs) returns-2 (λ c κs. search needs)
+    (λ c κs. search needs) (λ c κs. search needs) (λ c. search needs) returns-3)

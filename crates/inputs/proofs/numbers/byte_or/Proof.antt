@@ -5,9 +5,6 @@ use borrow.Author.Needs.{needs}
 use Rattle.inputs.proofs.numbers.byte_or.Statement.{statement}
 use Rattle.inputs.proofs.numbers.byte_or.Tie as tie
 
-cast-result : tie.Need-cast-result
-cast-result c = search needs
-
 returns : tie.Need-returns
 unfolding byteOr
 returns c = search tests
@@ -17,4 +14,4 @@ unfolding byteOr
 returns-2 c = search tests
 
 pub byte-or-spec : {M : Type 1} → statement M
-byte-or-spec = tie.close (tie.spec cast-result returns returns-2)
+byte-or-spec = tie.close (tie.spec (λ c. search needs) returns returns-2)

@@ -5,9 +5,6 @@ use borrow.Author.Needs.{needs}
 use Rattle.inputs.proofs.numbers.line_for.Statement.{statement}
 use Rattle.inputs.proofs.numbers.line_for.Tie as tie
 
-byte-or-requires : tie.Need-byte-or-requires
-byte-or-requires c κs = search needs
-
 returns : tie.Need-returns
 unfolding lineFor
 returns c = rw (c .byte-or .ensures, eq-eqb _ _ (c .before .if1 .taken))
@@ -17,4 +14,4 @@ unfolding lineFor
 returns-2 c = rw (ne-eqb _ _ (c .if1 .left))
 
 pub line-for-spec : {M : Type 1} → statement M
-line-for-spec = tie.close (tie.spec byte-or-requires returns returns-2)
+line-for-spec = tie.close (tie.spec (λ c κs. search needs) returns returns-2)

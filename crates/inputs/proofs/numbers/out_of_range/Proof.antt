@@ -4,12 +4,9 @@ use borrow.Author.Needs.{needs}
 use Rattle.inputs.proofs.numbers.out_of_range.Statement.{statement}
 use Rattle.inputs.proofs.numbers.out_of_range.Tie as tie
 
-record-of-requires : tie.Need-record-of-requires
-record-of-requires c κs = search needs
-
 returns : tie.Need-returns
 unfolding outside
 returns c = c .record-of .ensures
 
 pub out-of-range-spec : {M : Type 1} → statement M
-out-of-range-spec = tie.close (tie.spec record-of-requires returns)
+out-of-range-spec = tie.close (tie.spec (λ c κs. search needs) returns)

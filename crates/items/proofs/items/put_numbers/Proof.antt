@@ -58,14 +58,4 @@ pub put-numbers-spec : {M : Type 1} → statement M
 put-numbers-spec =
     tie.close
     (tie.spec
-    Inv-loop
-    μ-loop
-    loop-holds
-    mul-put-value
-    shared-slice-read-put-value
-    put-value-requires
-    add-j
-    loop-less
-    loop-again
-    same-length
-    returns)
+    Inv-loop μ-loop loop-holds mul-put-value shared-slice-read-put-value put-value-requires add-j loop-less loop-again same-length returns)

@@ -8,18 +8,6 @@ use borrow.Author.Needs.{needs}
 use Rattle.items.proofs.items.put_refusal.Statement.{statement}
 use Rattle.items.proofs.items.put_refusal.Tie as tie
 
-number-of-requires : tie.Need-number-of-requires
-number-of-requires c κs = search needs
-
-place-of-requires : tie.Need-place-of-requires
-place-of-requires c κs = search needs
-
-put-no-requires : tie.Need-put-no-requires
-put-no-requires c κs = search needs
-
-same-length : tie.Need-same-length
-same-length c = search needs
-
 returns : tie.Need-returns
 returns c =
     let n = c .before .before .before .before in
@@ -29,4 +17,4 @@ returns c =
 
 pub put-refusal-spec : {M : Type 1} → statement M
 put-refusal-spec =
-    tie.close (tie.spec number-of-requires place-of-requires put-no-requires same-length returns)
+    tie.close (tie.spec (λ c κs. search needs) (λ c κs. search needs) (λ c κs. search needs) (λ c. search needs) returns)

@@ -11,23 +11,8 @@ use borrow.Author.Needs.{needs}
 use Rattle.items.proofs.items.put_values.Statement.{statement}
 use Rattle.items.proofs.items.put_values.Tie as tie
 
-values-of-requires : tie.Need-values-of-requires
-values-of-requires c κs = search needs
-
-count-of-requires : tie.Need-count-of-requires
-count-of-requires c κs = search needs
-
-array-share-prefix-v : tie.Need-array-share-prefix-v
-array-share-prefix-v c = omega (arith, most (c .before .before .before .before .args .rec))
-
 slice-aggregate-put-numbers : tie.Need-slice-aggregate-put-numbers
 slice-aggregate-put-numbers c = sym (length-take-le (c .before .before .count-of .result) _ (omega (arith, most (c .before .before .before .before .before .args .rec))))
-
-put-numbers-requires : tie.Need-put-numbers-requires
-put-numbers-requires c κs = search needs
-
-same-length : tie.Need-same-length
-same-length c = search needs
 
 returns : tie.Need-returns
 returns c =
@@ -40,10 +25,5 @@ pub put-values-spec : {M : Type 1} → statement M
 put-values-spec =
     tie.close
     (tie.spec
-    values-of-requires
-    count-of-requires
-    array-share-prefix-v
-    slice-aggregate-put-numbers
-    put-numbers-requires
-    same-length
-    returns)
+    (λ c κs. search needs) (λ c κs. search needs) (λ c. omega (arith, most (c .before .before .before .before .args .rec)))
+    slice-aggregate-put-numbers (λ c κs. search needs) (λ c. search needs) returns)

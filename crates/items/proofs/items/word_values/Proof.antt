@@ -45,13 +45,4 @@ pub word-values-spec : {M : Type 1} → statement M
 word-values-spec =
     tie.close
     (tie.spec
-    Inv-loop
-    μ-loop
-    loop-holds
-    word-value-requires
-    mul-v
-    array-write-v
-    add-j
-    loop-less
-    loop-again
-    returns)
+    Inv-loop μ-loop loop-holds word-value-requires mul-v array-write-v add-j loop-less loop-again returns)

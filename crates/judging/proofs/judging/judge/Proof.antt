@@ -8,27 +8,12 @@ use borrow.Author.Needs.{needs}
 use Rattle.judging.proofs.judging.judge.Statement.{statement}
 use Rattle.judging.proofs.judging.judge.Tie as tie
 
-frame-check-requires : tie.Need-frame-check-requires
-frame-check-requires c κs = search needs
-
-enum-known-check : tie.Need-enum-known-check
-enum-known-check c = search needs
-
 returns : tie.Need-returns
 returns c = let a = c .before .before .before .before .before .args in
     when-bad (a .line) (a .number .0) (a .sent) (now (a .frame)) _ (sym (ap faultOf (c .before .check .given .1)) ∙ c .before .before .before .frame-check .ensures)
 
 enum-told : tie.Need-enum-told
 enum-told c = search needs
-
-byte-at-requires : tie.Need-byte-at-requires
-byte-at-requires c κs = search needs
-
-number-in-requires : tie.Need-number-in-requires
-number-in-requires c κs = search needs
-
-is-requires : tie.Need-is-requires
-is-requires c κs = search needs
 
 returns-2 : tie.Need-returns-2
 returns-2 c =
@@ -39,12 +24,6 @@ returns-2 c =
     let g = sym (ap faultOf (enum-told .given .1)) ∙ frame-check .ensures in
     when-other (a .line) (a .number .0) (a .sent) (now (a .frame)) g _ _ (byte-at .ensures) (c .before .before .number-in .ensures)
     (sym (c .before .is .ensures) ∙ not-true _ (c .if1 .taken))
-
-read-requires : tie.Need-read-requires
-read-requires c κs = search needs
-
-on-reading-requires : tie.Need-on-reading-requires
-on-reading-requires c κs = search needs
 
 returns-3 : tie.Need-returns-3
 returns-3 c =
@@ -63,14 +42,5 @@ pub judge-spec : {M : Type 1} → statement M
 judge-spec =
     tie.close
     (tie.spec
-    frame-check-requires
-    enum-known-check
-    returns
-    enum-told
-    byte-at-requires
-    number-in-requires
-    is-requires
-    returns-2
-    read-requires
-    on-reading-requires
-    returns-3)
+    (λ c κs. search needs) (λ c. search needs) returns enum-told (λ c κs. search needs) (λ c κs. search needs) (λ c κs. search needs) returns-2
+    (λ c κs. search needs) (λ c κs. search needs) returns-3)

@@ -5,17 +5,8 @@ use borrow.Author.Needs.{needs}
 use Rattle.judging.proofs.judging.on_record.Statement.{statement}
 use Rattle.judging.proofs.judging.on_record.Tie as tie
 
-is-failure-requires : tie.Need-is-failure-requires
-is-failure-requires c κs = search needs
-
 returns : tie.Need-returns
 returns c = let a = c .before .before .args in by-failure (a .line) (a .sent) (a .rec) (a .number) (sym (c .before .is-failure .ensures) ∙ c .if1 .taken)
-
-type-of-requires : tie.Need-type-of-requires
-type-of-requires c κs = search needs
-
-permitted-answer-requires : tie.Need-permitted-answer-requires
-permitted-answer-requires c κs = search needs
 
 returns-2 : tie.Need-returns-2
 returns-2 c =
@@ -37,9 +28,4 @@ pub on-record-spec : {M : Type 1} → statement M
 on-record-spec =
     tie.close
     (tie.spec
-    is-failure-requires
-    returns
-    type-of-requires
-    permitted-answer-requires
-    returns-2
-    returns-3)
+    (λ c κs. search needs) returns (λ c κs. search needs) (λ c κs. search needs) returns-2 returns-3)

@@ -8,19 +8,10 @@ use borrow.Author.Needs.{needs}
 use Rattle.lines.proofs.lines.line_of.Statement.{statement}
 use Rattle.lines.proofs.lines.line_of.Tie as tie
 
-is-line-requires : tie.Need-is-line-requires
-is-line-requires c κs = search needs
-
 sub-result : tie.Need-sub-result
 sub-result c =
     let h = from-bounds 1 (length lines) (c .before .before .args .line) (sym (c .before .is-line .ensures) ∙ c .if1 .taken) in
     omega arith
-
-cast-result : tie.Need-cast-result
-cast-result c = search needs
-
-mul-result : tie.Need-mul-result
-mul-result c = search needs
 
 array-copy-out-result : tie.Need-array-copy-out-result
 array-copy-out-result c =
@@ -39,10 +30,4 @@ pub line-of-spec : {M : Type 1} → statement M
 line-of-spec =
     tie.close
     (tie.spec
-    is-line-requires
-    sub-result
-    cast-result
-    mul-result
-    array-copy-out-result
-    returns
-    returns-2)
+    (λ c κs. search needs) sub-result (λ c. search needs) (λ c. search needs) array-copy-out-result returns returns-2)

@@ -12,9 +12,6 @@ returns : tie.Need-returns
 unfolding lineNamed
 returns c = let z : c .before .args .digit - code "0" ≡ 0 = omega arith in rw z
 
-is-line-requires : tie.Need-is-line-requires
-is-line-requires c κs = search needs
-
 returns-2 : tie.Need-returns-2
 unfolding lineNamed
 returns-2 c = rw (← (c .before .is-line .ensures), c .if2 .taken)
@@ -24,4 +21,4 @@ unfolding lineNamed
 returns-3 c = rw (← (c .before .is-line .ensures), c .if2 .left)
 
 pub line-named-spec : {M : Type 1} → statement M
-line-named-spec = tie.close (tie.spec returns is-line-requires returns-2 returns-3)
+line-named-spec = tie.close (tie.spec returns (λ c κs. search needs) returns-2 returns-3)

@@ -3,11 +3,5 @@ use Rattle.lister.proofs.Tasks.{none-named, one-named}
 use Rattle.lister.proofs.state.line_task.Statement.{statement}
 use Rattle.lister.proofs.state.line_task.Tie as tie
 
-returns : tie.Need-returns
-returns c = none-named (c .before .args .line) (c .if1 .taken)
-
-returns-2 : tie.Need-returns-2
-returns-2 c = one-named (c .before .args .line) (c .if1 .left)
-
 pub line-task-spec : {M : Type 1} → statement M
-line-task-spec = tie.close (tie.spec returns returns-2)
+line-task-spec = tie.close (tie.spec (λ c. none-named (c .before .args .line) (c .if1 .taken)) (λ c. one-named (c .before .args .line) (c .if1 .left)))

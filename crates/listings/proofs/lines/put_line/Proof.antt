@@ -9,24 +9,6 @@ use borrow.Author.Needs.{needs}
 use Rattle.listings.proofs.lines.put_line.Statement.{statement}
 use Rattle.listings.proofs.lines.put_line.Tie as tie
 
-returns : tie.Need-returns
-returns c = no-line _ _ (c .if1 .taken)
-
-put-number-requires : tie.Need-put-number-requires
-put-number-requires c κs = search needs
-
-put-byte-requires : tie.Need-put-byte-requires
-put-byte-requires c κs = search needs
-
-put-number-requires-2 : tie.Need-put-number-requires-2
-put-number-requires-2 c κs = search needs
-
-put-answer-requires : tie.Need-put-answer-requires
-put-answer-requires c κs = search needs
-
-same-length : tie.Need-same-length
-same-length c = search needs
-
 returns-2 : tie.Need-returns-2
 unfolding lineText
 returns-2 c =
@@ -42,10 +24,5 @@ pub put-line-spec : {M : Type 1} → statement M
 put-line-spec =
     tie.close
     (tie.spec
-    returns
-    put-number-requires
-    put-byte-requires
-    put-number-requires-2
-    put-answer-requires
-    same-length
+    (λ c. no-line _ _ (c .if1 .taken)) (λ c κs. search needs) (λ c κs. search needs) (λ c κs. search needs) (λ c κs. search needs) (λ c. search needs)
     returns-2)

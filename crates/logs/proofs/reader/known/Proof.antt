@@ -13,15 +13,6 @@ returns : tie.Need-returns
 unfolding knownIn
 returns c = search tests
 
-byte-at-requires : tie.Need-byte-at-requires
-byte-at-requires c κs = search needs
-
-wide-requires : tie.Need-wide-requires
-wide-requires c κs = search needs
-
-may-have-requires : tie.Need-may-have-requires
-may-have-requires c κs = search needs
-
 returns-2 : tie.Need-returns-2
 returns-2 c =
     let a = c .before .before .before .before .before .before .args in
@@ -29,9 +20,6 @@ returns-2 c =
     let byte-at = c .before .before .before .byte-at in
     bad-length (a .mark) (a .from) (now (a .rest)) _ _ (c .before .before .wide .ensures .0) (byte-at .ensures) (if1 .left)
     (sym (c .before .may-have .ensures) ∙ not-true _ (c .if2 .taken))
-
-sub-if3 : tie.Need-sub-if3
-sub-if3 c = search needs
 
 returns-3 : tie.Need-returns-3
 returns-3 c =
@@ -41,18 +29,6 @@ returns-3 c =
     let wide = c .before .before .before .wide in
     bytes-missing (a .mark) (a .from) (now (a .rest)) _ _ (wide .ensures .0) (byte-at .ensures) (if1 .left)
     (sym (c .before .before .may-have .ensures) ∙ not-false _ (c .before .if2 .left)) (c .if3 .taken)
-
-add-start : tie.Need-add-start
-add-start c = search needs
-
-part-requires : tie.Need-part-requires
-part-requires c κs = search needs
-
-four-said-requires : tie.Need-four-said-requires
-four-said-requires c κs = search needs
-
-add-t6 : tie.Need-add-t6
-add-t6 c = search needs
 
 returns-4 : tie.Need-returns-4
 returns-4 c =
@@ -69,15 +45,5 @@ pub known-spec : {M : Type 1} → statement M
 known-spec =
     tie.close
     (tie.spec
-    returns
-    byte-at-requires
-    wide-requires
-    may-have-requires
-    returns-2
-    sub-if3
-    returns-3
-    add-start
-    part-requires
-    four-said-requires
-    add-t6
-    returns-4)
+    returns (λ c κs. search needs) (λ c κs. search needs) (λ c κs. search needs) returns-2 (λ c. search needs) returns-3 (λ c. search needs)
+    (λ c κs. search needs) (λ c κs. search needs) (λ c. search needs) returns-4)

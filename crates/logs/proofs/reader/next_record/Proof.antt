@@ -8,9 +8,6 @@ use borrow.Author.Needs.{needs}
 use Rattle.logs.proofs.reader.next_record.Statement.{statement}
 use Rattle.logs.proofs.reader.next_record.Tie as tie
 
-part-requires : tie.Need-part-requires
-part-requires c κs = search needs
-
 record-in-requires : tie.Need-record-in-requires
 record-in-requires c κs =
     let a = c .before .before .args in
@@ -22,4 +19,4 @@ returns c =
     c .record-in .ensures ∙ ap (recordIn (a .from)) (c .before .part .ensures ∙ rest-of (now (a .log)) (a .from))
 
 pub next-record-spec : {M : Type 1} → statement M
-next-record-spec = tie.close (tie.spec part-requires record-in-requires returns)
+next-record-spec = tie.close (tie.spec (λ c κs. search needs) record-in-requires returns)

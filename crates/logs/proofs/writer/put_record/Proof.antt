@@ -11,30 +11,6 @@ use borrow.Author.Needs.{needs}
 use Rattle.logs.proofs.writer.put_record.Statement.{statement}
 use Rattle.logs.proofs.writer.put_record.Tie as tie
 
-mark-bytes-requires : tie.Need-mark-bytes-requires
-mark-bytes-requires c κs = search needs
-
-slice-aggregate-put-text : tie.Need-slice-aggregate-put-text
-slice-aggregate-put-text c = search needs
-
-put-text-requires : tie.Need-put-text-requires
-put-text-requires c κs = search needs
-
-put-four-requires : tie.Need-put-four-requires
-put-four-requires c κs = search needs
-
-cast-put-byte : tie.Need-cast-put-byte
-cast-put-byte c = search needs
-
-put-byte-requires : tie.Need-put-byte-requires
-put-byte-requires c κs = search needs
-
-put-text-requires-2 : tie.Need-put-text-requires-2
-put-text-requires-2 c κs = search needs
-
-same-length : tie.Need-same-length
-same-length c = search needs
-
 returns : tie.Need-returns
 unfolding recordBytes
 returns c =
@@ -50,12 +26,5 @@ pub put-record-spec : {M : Type 1} → statement M
 put-record-spec =
     tie.close
     (tie.spec
-    mark-bytes-requires
-    slice-aggregate-put-text
-    put-text-requires
-    put-four-requires
-    cast-put-byte
-    put-byte-requires
-    put-text-requires-2
-    same-length
-    returns)
+    (λ c κs. search needs) (λ c. search needs) (λ c κs. search needs) (λ c κs. search needs) (λ c. search needs) (λ c κs. search needs)
+    (λ c κs. search needs) (λ c. search needs) returns)

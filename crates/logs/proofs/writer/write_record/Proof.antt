@@ -9,9 +9,6 @@ use borrow.Author.Needs.{needs}
 use Rattle.logs.proofs.writer.write_record.Statement.{statement}
 use Rattle.logs.proofs.writer.write_record.Tie as tie
 
-may-have-requires : tie.Need-may-have-requires
-may-have-requires c κs = search needs
-
 returns : tie.Need-returns
 returns c =
     let a = c .before .before .before .before .args in
@@ -21,9 +18,6 @@ returns-2 : tie.Need-returns-2
 returns-2 c =
     let a = c .before .before .before .before .before .args in
     no-room (logRecord (a .mark) (a .time) (now (a .bytes))) (now (a .out)) (sym (c .before .before .may-have .ensures) ∙ not-false _ (c .before .if1 .left)) (omega (arith, c .if2 .taken))
-
-sub-if3 : tie.Need-sub-if3
-sub-if3 c = search needs
 
 returns-3 : tie.Need-returns-3
 returns-3 c =
@@ -39,9 +33,6 @@ put-record-requires c κs =
     let if1 = c .before .before .before .if1 in
     byte-long (a .mark) _ (sym (may-have .ensures) ∙ not-false _ (if1 .left))
 
-same-length : tie.Need-same-length
-same-length c = search needs
-
 returns-4 : tie.Need-returns-4
 returns-4 c =
     let a = c .before .before .before .before .before .before .before .before .before .before .args in
@@ -56,11 +47,4 @@ pub write-record-spec : {M : Type 1} → statement M
 write-record-spec =
     tie.close
     (tie.spec
-    may-have-requires
-    returns
-    returns-2
-    sub-if3
-    returns-3
-    put-record-requires
-    same-length
-    returns-4)
+    (λ c κs. search needs) returns returns-2 (λ c. search needs) returns-3 put-record-requires (λ c. search needs) returns-4)

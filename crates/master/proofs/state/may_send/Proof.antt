@@ -5,15 +5,6 @@ use borrow.Author.Needs.{needs}
 use Rattle.master.proofs.state.may_send.Statement.{statement}
 use Rattle.master.proofs.state.may_send.Tie as tie
 
-type-of-requires : tie.Need-type-of-requires
-type-of-requires c κs = search needs
-
-by-master-requires : tie.Need-by-master-requires
-by-master-requires c κs = search needs
-
-permits-record-requires : tie.Need-permits-record-requires
-permits-record-requires c κs = search needs
-
 returns : tie.Need-returns
 returns c =
     let a = c .before .before .before .before .args in
@@ -30,4 +21,4 @@ returns-2 c =
 pub may-send-spec : {M : Type 1} → statement M
 may-send-spec =
     tie.close
-    (tie.spec type-of-requires by-master-requires permits-record-requires returns returns-2)
+    (tie.spec (λ c κs. search needs) (λ c κs. search needs) (λ c κs. search needs) returns returns-2)

@@ -8,20 +8,11 @@ use borrow.Author.Needs.{needs}
 use Rattle.masterhearing.proofs.hearing.listen.Statement.{statement}
 use Rattle.masterhearing.proofs.hearing.listen.Tie as tie
 
-ignored-requires : tie.Need-ignored-requires
-ignored-requires c κs = search needs
-
 returns : tie.Need-returns
 returns c =
     let s = c .before .before .before .before .before in
     let a = s .args in
     hear-free (a .master) (a .at) (now (a .frame)) (now (a .out)) (passes (a .master) _ (s .pre .0) (s .pre .1)) (c .before .if1 .taken) _ (c .ignored .ensures)
-
-run-out-requires : tie.Need-run-out-requires
-run-out-requires c κs = search needs
-
-ignored-requires-2 : tie.Need-ignored-requires-2
-ignored-requires-2 c κs = search needs
 
 returns-2 : tie.Need-returns-2
 returns-2 c =
@@ -32,9 +23,6 @@ returns-2 c =
 
 weigh-requires : tie.Need-weigh-requires
 weigh-requires c κs = let s = c .before .before .before .before .before .before .before in (s .pre .0, (ne-eqb _ _ (c .before .before .before .if1 .left), s .pre .1))
-
-same-length : tie.Need-same-length
-same-length c = search needs
 
 returns-3 : tie.Need-returns-3
 returns-3 c =
@@ -48,11 +36,4 @@ pub listen-spec : {M : Type 1} → statement M
 listen-spec =
     tie.close
     (tie.spec
-    ignored-requires
-    returns
-    run-out-requires
-    ignored-requires-2
-    returns-2
-    weigh-requires
-    same-length
-    returns-3)
+    (λ c κs. search needs) returns (λ c κs. search needs) (λ c κs. search needs) returns-2 weigh-requires (λ c. search needs) returns-3)

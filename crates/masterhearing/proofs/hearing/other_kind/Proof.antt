@@ -7,11 +7,8 @@ use borrow.Author.Needs.{needs}
 use Rattle.masterhearing.proofs.hearing.other_kind.Statement.{statement}
 use Rattle.masterhearing.proofs.hearing.other_kind.Tie as tie
 
-answered-requires : tie.Need-answered-requires
-answered-requires c κs = search needs
-
 returns : tie.Need-returns
 returns c = ap (λ (m : Master). (m, otherKind (answerOf (c .before .args .reading)) (c .before .args .master .count))) (c .answered .ensures)
 
 pub other-kind-spec : {M : Type 1} → statement M
-other-kind-spec = tie.close (tie.spec answered-requires returns)
+other-kind-spec = tie.close (tie.spec (λ c κs. search needs) returns)

@@ -6,11 +6,8 @@ use borrow.Author.Needs.{needs}
 use Rattle.masterhearing.proofs.hearing.permitted.Statement.{statement}
 use Rattle.masterhearing.proofs.hearing.permitted.Tie as tie
 
-answered-with-requires : tie.Need-answered-with-requires
-answered-with-requires c κs = search needs
-
 returns : tie.Need-returns
 returns c = ap (λ (m : Master). permitting m (c .before .args .rec) (c .before .args .master .count)) (c .answered-with .ensures)
 
 pub permitted-spec : {M : Type 1} → statement M
-permitted-spec = tie.close (tie.spec answered-with-requires returns)
+permitted-spec = tie.close (tie.spec (λ c κs. search needs) returns)

@@ -7,39 +7,15 @@ use borrow.Author.Needs.{needs}
 use Rattle.masterhearing.proofs.hearing.settle.Statement.{statement}
 use Rattle.masterhearing.proofs.hearing.settle.Tie as tie
 
-with-line-requires : tie.Need-with-line-requires
-with-line-requires c κs = search needs
-
-enum-known-verdict : tie.Need-enum-known-verdict
-enum-known-verdict c = search needs
-
-ignored-requires : tie.Need-ignored-requires
-ignored-requires c κs = search needs
-
 returns : tie.Need-returns
 returns c =
     let a = c .before .before .before .before .before .before .args in
     settle-bad (a .master) (a .at) (now (a .out)) (a .verdict) _ (c .before .before .verdict .given .1) _ (c .ignored .ensures)
 
-enum-told : tie.Need-enum-told
-enum-told c = search needs
-
-ignored-requires-2 : tie.Need-ignored-requires-2
-ignored-requires-2 c κs = search needs
-
 returns-2 : tie.Need-returns-2
 returns-2 c =
     let a = c .before .before .before .before .before .args in
     settle-other (a .master) (a .at) (now (a .out)) (a .verdict) (c .before .enum-told .given .1) _ (c .ignored2 .ensures)
-
-enum-told-2 : tie.Need-enum-told-2
-enum-told-2 c = search needs
-
-fail-requires : tie.Need-fail-requires
-fail-requires c κs = search needs
-
-same-length : tie.Need-same-length
-same-length c = search needs
 
 returns-3 : tie.Need-returns-3
 returns-3 c =
@@ -50,24 +26,12 @@ returns-3 c =
     ∙ settle-failed (a .master) (a .at) (now (a .out)) (a .verdict) _ e (c .before .before .before .before .enum-told2 .given .1) (line-noted (a .master) _ _ e (s .pre .0))
     (line-noted-busy (a .master) _ _ e (s .pre .1 .0)) (s .pre .1 .1)
 
-enum-known-verdict-2 : tie.Need-enum-known-verdict-2
-enum-known-verdict-2 c = search needs
-
-permitted-requires : tie.Need-permitted-requires
-permitted-requires c κs = search needs
-
 returns-4 : tie.Need-returns-4
 returns-4 c =
     let a = c .before .before .before .before .before .before .args in
     let with-line = c .before .before .before .before .with-line in
     settle-answered (a .master) (a .at) (now (a .out)) (a .verdict) _ (with-line .ensures) _ (c .before .before .verdict2 .given .1) (c .permitted .result)
     (c .permitted .ensures)
-
-enum-known-verdict-3 : tie.Need-enum-known-verdict-3
-enum-known-verdict-3 c = search needs
-
-other-kind-requires : tie.Need-other-kind-requires
-other-kind-requires c κs = search needs
 
 returns-5 : tie.Need-returns-5
 returns-5 c =
@@ -80,20 +44,6 @@ pub settle-spec : {M : Type 1} → statement M
 settle-spec =
     tie.close
     (tie.spec
-    with-line-requires
-    enum-known-verdict
-    ignored-requires
-    returns
-    enum-told
-    ignored-requires-2
-    returns-2
-    enum-told-2
-    fail-requires
-    same-length
-    returns-3
-    enum-known-verdict-2
-    permitted-requires
-    returns-4
-    enum-known-verdict-3
-    other-kind-requires
-    returns-5)
+    (λ c κs. search needs) (λ c. search needs) (λ c κs. search needs) returns (λ c. search needs) (λ c κs. search needs) returns-2 (λ c. search needs)
+    (λ c κs. search needs) (λ c. search needs) returns-3 (λ c. search needs) (λ c κs. search needs) returns-4 (λ c. search needs)
+    (λ c κs. search needs) returns-5)

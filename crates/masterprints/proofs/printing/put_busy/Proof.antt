@@ -11,24 +11,6 @@ returns : tie.Need-returns
 unfolding busyText puts
 returns c = rw (c .if1 .taken)
 
-slice-aggregate-number : tie.Need-slice-aggregate-number
-slice-aggregate-number c = search needs
-
-number-requires : tie.Need-number-requires
-number-requires c κs = search needs
-
-slice-aggregate-put-text : tie.Need-slice-aggregate-put-text
-slice-aggregate-put-text c = search needs
-
-put-text-requires : tie.Need-put-text-requires
-put-text-requires c κs = search needs
-
-put-record-requires : tie.Need-put-record-requires
-put-record-requires c κs = search needs
-
-same-length : tie.Need-same-length
-same-length c = search needs
-
 returns-2 : tie.Need-returns-2
 unfolding busyText
 returns-2 c =
@@ -42,11 +24,5 @@ pub put-busy-spec : {M : Type 1} → statement M
 put-busy-spec =
     tie.close
     (tie.spec
-    returns
-    slice-aggregate-number
-    number-requires
-    slice-aggregate-put-text
-    put-text-requires
-    put-record-requires
-    same-length
+    returns (λ c. search needs) (λ c κs. search needs) (λ c. search needs) (λ c κs. search needs) (λ c κs. search needs) (λ c. search needs)
     returns-2)

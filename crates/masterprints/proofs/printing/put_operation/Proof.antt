@@ -5,15 +5,6 @@ use borrow.Author.Needs.{needs}
 use Rattle.masterprints.proofs.printing.put_operation.Statement.{statement}
 use Rattle.masterprints.proofs.printing.put_operation.Tie as tie
 
-slice-aggregate-put-text : tie.Need-slice-aggregate-put-text
-slice-aggregate-put-text c = search needs
-
-put-text-requires : tie.Need-put-text-requires
-put-text-requires c κs = search needs
-
-same-length : tie.Need-same-length
-same-length c = search needs
-
 returns : tie.Need-returns
 unfolding operationText
 returns c = rw (c .before .before .before .before .before .if1 .taken) (c .before .before .put-text .ensures)
@@ -24,4 +15,4 @@ returns-2 c = rw (c .if1 .left)
 
 pub put-operation-spec : {M : Type 1} → statement M
 put-operation-spec =
-    tie.close (tie.spec slice-aggregate-put-text put-text-requires same-length returns returns-2)
+    tie.close (tie.spec (λ c. search needs) (λ c κs. search needs) (λ c. search needs) returns returns-2)

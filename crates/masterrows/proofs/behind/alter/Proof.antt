@@ -4,22 +4,10 @@ use borrow.Author.Needs.{needs}
 use Rattle.masterrows.proofs.behind.alter.Statement.{statement}
 use Rattle.masterrows.proofs.behind.alter.Tie as tie
 
-small-requires : tie.Need-small-requires
-small-requires c κs = search needs
-
-altered-requires : tie.Need-altered-requires
-altered-requires c κs = search needs
-
-put-altered-requires : tie.Need-put-altered-requires
-put-altered-requires c κs = search needs
-
-same-length : tie.Need-same-length
-same-length c = search needs
-
 returns : tie.Need-returns
 unfolding alteringRow
 returns c = rw (c .before .before .put-altered .ensures, c .before .before .before .before .before .altered .ensures, c .before .before .before .before .before .before .small .ensures)
 
 pub alter-spec : {M : Type 1} → statement M
 alter-spec =
-    tie.close (tie.spec small-requires altered-requires put-altered-requires same-length returns)
+    tie.close (tie.spec (λ c κs. search needs) (λ c κs. search needs) (λ c κs. search needs) (λ c. search needs) returns)

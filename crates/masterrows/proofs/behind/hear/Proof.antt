@@ -8,27 +8,6 @@ use borrow.Author.Needs.{needs}
 use Rattle.masterrows.proofs.behind.hear.Statement.{statement}
 use Rattle.masterrows.proofs.behind.hear.Tie as tie
 
-slice-aggregate-meant : tie.Need-slice-aggregate-meant
-slice-aggregate-meant c = search needs
-
-meant-requires : tie.Need-meant-requires
-meant-requires c κs = search needs
-
-word-value-requires : tie.Need-word-value-requires
-word-value-requires c κs = search needs
-
-slice-aggregate-part : tie.Need-slice-aggregate-part
-slice-aggregate-part c = search needs
-
-part-requires : tie.Need-part-requires
-part-requires c κs = search needs
-
-hear-requires : tie.Need-hear-requires
-hear-requires c κs = search needs
-
-same-length : tie.Need-same-length
-same-length c = search needs
-
 returns : tie.Need-returns
 returns c =
     let h = c .before .before in
@@ -42,11 +21,5 @@ pub hear-spec : {M : Type 1} → statement M
 hear-spec =
     tie.close
     (tie.spec
-    slice-aggregate-meant
-    meant-requires
-    word-value-requires
-    slice-aggregate-part
-    part-requires
-    hear-requires
-    same-length
-    returns)
+    (λ c. search needs) (λ c κs. search needs) (λ c κs. search needs) (λ c. search needs) (λ c κs. search needs) (λ c κs. search needs)
+    (λ c. search needs) returns)

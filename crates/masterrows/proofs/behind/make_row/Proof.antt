@@ -8,9 +8,6 @@ use borrow.Author.Needs.{needs}
 use Rattle.masterrows.proofs.behind.make_row.Statement.{statement}
 use Rattle.masterrows.proofs.behind.make_row.Tie as tie
 
-room-requires : tie.Need-room-requires
-room-requires c κs = search needs
-
 array-borrow-prefix-sent : tie.Need-array-borrow-prefix-sent
 array-borrow-prefix-sent c =
     let room = c .room .ensures in
@@ -23,12 +20,6 @@ slice-aggregate-make-in c =
     let most = room-most (c .before .before .before .before .args .row .now) in
     sym (length-take-le _ _ (omega (arith, room, most)))
 
-make-in-requires : tie.Need-make-in-requires
-make-in-requires c κs = search needs
-
-same-length : tie.Need-same-length
-same-length c = search needs
-
 returns : tie.Need-returns
 returns c = makes _ _ _ _ _ _ (c .before .before .before .before .before .before .room .ensures) (c .before .before .before .make-in .ensures)
 
@@ -36,9 +27,4 @@ pub make-row-spec : {M : Type 1} → statement M
 make-row-spec =
     tie.close
     (tie.spec
-    room-requires
-    array-borrow-prefix-sent
-    slice-aggregate-make-in
-    make-in-requires
-    same-length
-    returns)
+    (λ c κs. search needs) array-borrow-prefix-sent slice-aggregate-make-in (λ c κs. search needs) (λ c. search needs) returns)

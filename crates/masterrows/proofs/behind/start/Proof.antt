@@ -8,24 +8,6 @@ use borrow.Author.Needs.{needs}
 use Rattle.masterrows.proofs.behind.start.Statement.{statement}
 use Rattle.masterrows.proofs.behind.start.Tie as tie
 
-small-requires : tie.Need-small-requires
-small-requires c κs = search needs
-
-word-value-requires : tie.Need-word-value-requires
-word-value-requires c κs = search needs
-
-start-requires : tie.Need-start-requires
-start-requires c κs = search needs
-
-slice-aggregate-did : tie.Need-slice-aggregate-did
-slice-aggregate-did c = search needs
-
-did-requires : tie.Need-did-requires
-did-requires c κs = search needs
-
-same-length : tie.Need-same-length
-same-length c = search needs
-
 returns : tie.Need-returns
 unfolding startRow
 returns c =
@@ -39,10 +21,4 @@ pub start-spec : {M : Type 1} → statement M
 start-spec =
     tie.close
     (tie.spec
-    small-requires
-    word-value-requires
-    start-requires
-    slice-aggregate-did
-    did-requires
-    same-length
-    returns)
+    (λ c κs. search needs) (λ c κs. search needs) (λ c κs. search needs) (λ c. search needs) (λ c κs. search needs) (λ c. search needs) returns)

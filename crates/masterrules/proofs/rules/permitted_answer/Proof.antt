@@ -5,18 +5,6 @@ use borrow.Author.Needs.{needs}
 use Rattle.masterrules.proofs.rules.permitted_answer.Statement.{statement}
 use Rattle.masterrules.proofs.rules.permitted_answer.Tie as tie
 
-data-type-requires : tie.Need-data-type-requires
-data-type-requires c κs = search needs
-
-cast-is-one : tie.Need-cast-is-one
-cast-is-one c = search needs
-
-cast-is-one-2 : tie.Need-cast-is-one-2
-cast-is-one-2 c = search needs
-
-is-one-requires : tie.Need-is-one-requires
-is-one-requires c κs = search needs
-
 returns : tie.Need-returns
 returns c =
     let a = c .before .before .before .args in
@@ -29,15 +17,6 @@ returns-2 c =
     let data-type = c .before .before .before .data-type in
     idle-data (a .line) (a .sent) (a .got) (data-type .result) (data-type .ensures) (c .before .before .if1 .left) (c .before .if2 .taken) (c .if3 .taken)
 
-cast-is-one-3 : tie.Need-cast-is-one-3
-cast-is-one-3 c = search needs
-
-cast-is-one-4 : tie.Need-cast-is-one-4
-cast-is-one-4 c = search needs
-
-is-one-requires-2 : tie.Need-is-one-requires-2
-is-one-requires-2 c κs = search needs
-
 returns-3 : tie.Need-returns-3
 returns-3 c =
     let a = c .before .before .before .before .before .args in
@@ -45,15 +24,6 @@ returns-3 c =
     let if1 = c .before .before .before .if1 in
     c .is-one2 .ensures
     ∙ idle-other (a .line) (a .sent) (a .got) (data-type .result) (data-type .ensures) (if1 .left) (c .before .before .if2 .taken) (c .before .if3 .left)
-
-cast-is-one-5 : tie.Need-cast-is-one-5
-cast-is-one-5 c = search needs
-
-cast-is-one-6 : tie.Need-cast-is-one-6
-cast-is-one-6 c = search needs
-
-is-one-requires-3 : tie.Need-is-one-requires-3
-is-one-requires-3 c κs = search needs
 
 returns-4 : tie.Need-returns-4
 returns-4 c =
@@ -66,12 +36,5 @@ pub permitted-answer-spec : {M : Type 1} → statement M
 permitted-answer-spec =
     tie.close
     (tie.spec
-    data-type-requires
-    cast-is-one
-    cast-is-one-2 is-one-requires
-    returns
-    returns-2
-    cast-is-one-3 cast-is-one-4 is-one-requires-2
-    returns-3
-    cast-is-one-5 cast-is-one-6 is-one-requires-3
-    returns-4)
+    (λ c κs. search needs) (λ c. search needs) (λ c. search needs) (λ c κs. search needs) returns returns-2
+    (λ c. search needs) (λ c. search needs) (λ c κs. search needs) returns-3 (λ c. search needs) (λ c. search needs) (λ c κs. search needs) returns-4)

@@ -4,18 +4,6 @@ use borrow.Author.Needs.{needs}
 use Rattle.masterrules.proofs.rules.poll_of.Statement.{statement}
 use Rattle.masterrules.proofs.rules.poll_of.Tie as tie
 
-line-of-requires : tie.Need-line-of-requires
-line-of-requires c κs = search needs
-
-data-type-requires : tie.Need-data-type-requires
-data-type-requires c κs = search needs
-
-cast-t6 : tie.Need-cast-t6
-cast-t6 c = search needs
-
-cast-t7 : tie.Need-cast-t7
-cast-t7 c = search needs
-
 returns : tie.Need-returns
 returns c = polls-with-r (c .before .before .before .before .args .line) _ (c .before .before .before .line-of .ensures) (c .before .if1 .taken) _ (c .data-type .ensures)
 
@@ -24,4 +12,4 @@ returns-2 c = polls-with-t (c .before .before .before .args .line) _ (c .before 
 
 pub poll-of-spec : {M : Type 1} → statement M
 poll-of-spec =
-    tie.close (tie.spec line-of-requires data-type-requires cast-t6 cast-t7 returns returns-2)
+    tie.close (tie.spec (λ c κs. search needs) (λ c κs. search needs) (λ c. search needs) (λ c. search needs) returns returns-2)

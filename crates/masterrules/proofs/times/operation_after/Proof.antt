@@ -8,23 +8,11 @@ use Rattle.masterrules.proofs.times.operation_after.Tie as tie
 returns : tie.Need-returns
 returns c = let a = c .before .args in not-idling (a .line) (a .sent) (a .rec) (a .before) (c .if1 .taken)
 
-type-of-requires : tie.Need-type-of-requires
-type-of-requires c κs = search needs
-
 returns-2 : tie.Need-returns-2
 returns-2 c =
     let a = c .before .before .before .args in
     let type-of = c .before .type-of in
     not-approved (a .line) (a .sent) (a .rec) (a .before) (c .before .before .if1 .left) (type-of .result) (type-of .ensures) (c .if2 .taken)
-
-values-of-requires : tie.Need-values-of-requires
-values-of-requires c κs = search needs
-
-array-read-if3 : tie.Need-array-read-if3
-array-read-if3 c = search needs
-
-cast-if3 : tie.Need-cast-if3
-cast-if3 c = search needs
 
 returns-3 : tie.Need-returns-3
 returns-3 c =
@@ -33,9 +21,6 @@ returns-3 c =
     let values-of = c .before .values-of in
     other-position (a .line) (a .sent) (a .rec) (a .before) (p .before .if1 .left) (p .type-of .result) (p .type-of .ensures) (c .before .before .if2 .left)
     (values-of .result) (values-of .ensures) (c .if3 .taken)
-
-reduces-requires : tie.Need-reduces-requires
-reduces-requires c κs = search needs
 
 returns-4 : tie.Need-returns-4
 returns-4 c =
@@ -50,12 +35,5 @@ pub operation-after-spec : {M : Type 1} → statement M
 operation-after-spec =
     tie.close
     (tie.spec
-    returns
-    type-of-requires
-    returns-2
-    values-of-requires
-    array-read-if3
-    cast-if3
-    returns-3
-    reduces-requires
+    returns (λ c κs. search needs) returns-2 (λ c κs. search needs) (λ c. search needs) (λ c. search needs) returns-3 (λ c κs. search needs)
     returns-4)

@@ -4,9 +4,6 @@ use borrow.Author.Needs.{needs}
 use Rattle.masterrules.proofs.times.operation_fits.Statement.{statement}
 use Rattle.masterrules.proofs.times.operation_fits.Tie as tie
 
-reduces-requires : tie.Need-reduces-requires
-reduces-requires c κs = search needs
-
 returns : tie.Need-returns
 unfolding operationFits
 returns c = rw (c .before .if1 .taken) (c .reduces .ensures)
@@ -16,4 +13,4 @@ unfolding operationFits
 returns-2 c = rw (c .if1 .left)
 
 pub operation-fits-spec : {M : Type 1} → statement M
-operation-fits-spec = tie.close (tie.spec reduces-requires returns returns-2)
+operation-fits-spec = tie.close (tie.spec (λ c κs. search needs) returns returns-2)

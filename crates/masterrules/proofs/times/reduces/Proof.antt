@@ -4,12 +4,9 @@ use borrow.Author.Needs.{needs}
 use Rattle.masterrules.proofs.times.reduces.Statement.{statement}
 use Rattle.masterrules.proofs.times.reduces.Tie as tie
 
-line-of-requires : tie.Need-line-of-requires
-line-of-requires c κs = search needs
-
 returns : tie.Need-returns
 unfolding reduces
 returns c = rw (← (c .before .line-of .ensures))
 
 pub reduces-spec : {M : Type 1} → statement M
-reduces-spec = tie.close (tie.spec line-of-requires returns)
+reduces-spec = tie.close (tie.spec (λ c κs. search needs) returns)

@@ -4,9 +4,6 @@ use borrow.Author.Needs.{needs}
 use Rattle.masterrules.proofs.times.t0_of.Statement.{statement}
 use Rattle.masterrules.proofs.times.t0_of.Tie as tie
 
-line-of-requires : tie.Need-line-of-requires
-line-of-requires c κs = search needs
-
 returns : tie.Need-returns
 unfolding t0Of
 returns c = rw (c .if1 .taken, ← (c .before .line-of .ensures))
@@ -16,4 +13,4 @@ unfolding t0Of
 returns-2 c = rw (c .if1 .left, ← (c .before .line-of .ensures))
 
 pub t0-of-spec : {M : Type 1} → statement M
-t0-of-spec = tie.close (tie.spec line-of-requires returns returns-2)
+t0-of-spec = tie.close (tie.spec (λ c κs. search needs) returns returns-2)

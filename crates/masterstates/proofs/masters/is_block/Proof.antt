@@ -9,18 +9,6 @@ use borrow.Author.Needs.{needs}
 use Rattle.masterstates.proofs.masters.is_block.Statement.{statement}
 use Rattle.masterstates.proofs.masters.is_block.Tie as tie
 
-slice-aggregate-put-master : tie.Need-slice-aggregate-put-master
-slice-aggregate-put-master c = search needs
-
-put-master-requires : tie.Need-put-master-requires
-put-master-requires c κs = search needs
-
-slice-aggregate-same : tie.Need-slice-aggregate-same
-slice-aggregate-same c = search needs
-
-same-requires : tie.Need-same-requires
-same-requires c κs = search needs
-
 returns : tie.Need-returns
 returns c =
     let a = c .before .before .before .before .before .before .args in
@@ -31,8 +19,4 @@ pub is-block-spec : {M : Type 1} → statement M
 is-block-spec =
     tie.close
     (tie.spec
-    slice-aggregate-put-master
-    put-master-requires
-    slice-aggregate-same
-    same-requires
-    returns)
+    (λ c. search needs) (λ c κs. search needs) (λ c. search needs) (λ c κs. search needs) returns)

@@ -8,15 +8,6 @@ use borrow.Author.Needs.{needs}
 use Rattle.masterstates.proofs.masters.load.Statement.{statement}
 use Rattle.masterstates.proofs.masters.load.Tie as tie
 
-master-at-requires : tie.Need-master-at-requires
-master-at-requires c κs = search needs
-
-is-block-requires : tie.Need-is-block-requires
-is-block-requires c κs = search needs
-
-unstarted-requires : tie.Need-unstarted-requires
-unstarted-requires c κs = search needs
-
 returns : tie.Need-returns
 returns c =
     loads masterBytes masterAt unstarted (now (c .before .before .before .before .args .block)) _ (c .before .before .master-at .ensures) (sym (c .if1 .taken) ∙ c .before .is-block .ensures)
@@ -29,4 +20,4 @@ returns-2 c =
 
 pub load-spec : {M : Type 1} → statement M
 load-spec =
-    tie.close (tie.spec master-at-requires is-block-requires unstarted-requires returns returns-2)
+    tie.close (tie.spec (λ c κs. search needs) (λ c κs. search needs) (λ c κs. search needs) returns returns-2)

@@ -4,39 +4,6 @@ use borrow.Author.Needs.{needs}
 use Rattle.masterstates.proofs.masters.master_at.Statement.{statement}
 use Rattle.masterstates.proofs.masters.master_at.Tie as tie
 
-byte-at-requires : tie.Need-byte-at-requires
-byte-at-requires c κs = search needs
-
-byte-at-requires-2 : tie.Need-byte-at-requires-2
-byte-at-requires-2 c κs = search needs
-
-byte-at-requires-3 : tie.Need-byte-at-requires-3
-byte-at-requires-3 c κs = search needs
-
-byte-at-requires-4 : tie.Need-byte-at-requires-4
-byte-at-requires-4 c κs = search needs
-
-part-requires : tie.Need-part-requires
-part-requires c κs = search needs
-
-record-at-requires : tie.Need-record-at-requires
-record-at-requires c κs = search needs
-
-part-requires-2 : tie.Need-part-requires-2
-part-requires-2 c κs = search needs
-
-four-said-requires : tie.Need-four-said-requires
-four-said-requires c κs = search needs
-
-part-requires-3 : tie.Need-part-requires-3
-part-requires-3 c κs = search needs
-
-four-said-requires-2 : tie.Need-four-said-requires-2
-four-said-requires-2 c κs = search needs
-
-byte-at-requires-5 : tie.Need-byte-at-requires-5
-byte-at-requires-5 c κs = search needs
-
 returns : tie.Need-returns
 unfolding masterAt
 returns c =
@@ -62,15 +29,5 @@ pub master-at-spec : {M : Type 1} → statement M
 master-at-spec =
     tie.close
     (tie.spec
-    byte-at-requires
-    byte-at-requires-2
-    byte-at-requires-3
-    byte-at-requires-4
-    part-requires
-    record-at-requires
-    part-requires-2
-    four-said-requires
-    part-requires-3
-    four-said-requires-2
-    byte-at-requires-5
-    returns)
+    (λ c κs. search needs) (λ c κs. search needs) (λ c κs. search needs) (λ c κs. search needs) (λ c κs. search needs) (λ c κs. search needs)
+    (λ c κs. search needs) (λ c κs. search needs) (λ c κs. search needs) (λ c κs. search needs) (λ c κs. search needs) returns)

@@ -4,27 +4,6 @@ use borrow.Author.Needs.{needs}
 use Rattle.masterstates.proofs.masters.put_master.Statement.{statement}
 use Rattle.masterstates.proofs.masters.put_master.Tie as tie
 
-put-head-requires : tie.Need-put-head-requires
-put-head-requires c κs = search needs
-
-put-four-requires : tie.Need-put-four-requires
-put-four-requires c κs = search needs
-
-put-four-requires-2 : tie.Need-put-four-requires-2
-put-four-requires-2 c κs = search needs
-
-flag-byte-requires : tie.Need-flag-byte-requires
-flag-byte-requires c κs = search needs
-
-put-byte-requires : tie.Need-put-byte-requires
-put-byte-requires c κs = search needs
-
-put-block-requires : tie.Need-put-block-requires
-put-block-requires c κs = search needs
-
-same-length : tie.Need-same-length
-same-length c = search needs
-
 returns : tie.Need-returns
 returns c =
     let p = c .before .before in
@@ -39,11 +18,5 @@ pub put-master-spec : {M : Type 1} → statement M
 put-master-spec =
     tie.close
     (tie.spec
-    put-head-requires
-    put-four-requires
-    put-four-requires-2
-    flag-byte-requires
-    put-byte-requires
-    put-block-requires
-    same-length
-    returns)
+    (λ c κs. search needs) (λ c κs. search needs) (λ c κs. search needs) (λ c κs. search needs) (λ c κs. search needs) (λ c κs. search needs)
+    (λ c. search needs) returns)

@@ -7,12 +7,6 @@ use borrow.Author.Needs.{needs}
 use Rattle.masterstates.proofs.masters.save.Statement.{statement}
 use Rattle.masterstates.proofs.masters.save.Tie as tie
 
-put-master-requires : tie.Need-put-master-requires
-put-master-requires c κs = search needs
-
-same-length : tie.Need-same-length
-same-length c = search needs
-
 returns : tie.Need-returns
 returns c =
     let p = c .before .before in
@@ -25,4 +19,4 @@ returns-2 c =
     unfilled masterLength (masterBytes (a .m)) (now (a .block)) (c .if1 .left)
 
 pub save-spec : {M : Type 1} → statement M
-save-spec = tie.close (tie.spec put-master-requires same-length returns returns-2)
+save-spec = tie.close (tie.spec (λ c κs. search needs) (λ c. search needs) returns returns-2)

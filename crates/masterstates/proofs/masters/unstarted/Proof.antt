@@ -7,12 +7,9 @@ use borrow.Author.Needs.{needs}
 use Rattle.masterstates.proofs.masters.unstarted.Statement.{statement}
 use Rattle.masterstates.proofs.masters.unstarted.Tie as tie
 
-start-requires : tie.Need-start-requires
-start-requires c κs = search needs
-
 returns : tie.Need-returns
 unfolding startOf
 returns c = ap (λ (y : Master × Told). y .0) (c .before .start .ensures)
 
 pub unstarted-spec : {M : Type 1} → statement M
-unstarted-spec = tie.close (tie.spec start-requires returns)
+unstarted-spec = tie.close (tie.spec (λ c κs. search needs) returns)

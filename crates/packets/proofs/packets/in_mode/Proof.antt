@@ -4,14 +4,5 @@ use borrow.Author.Needs.{needs}
 use Rattle.packets.proofs.packets.in_mode.Statement.{statement}
 use Rattle.packets.proofs.packets.in_mode.Tie as tie
 
-is-operational-requires : tie.Need-is-operational-requires
-is-operational-requires c κs = search needs
-
-returns : tie.Need-returns
-returns c = search tests
-
-returns-2 : tie.Need-returns-2
-returns-2 c = search tests
-
 pub in-mode-spec : {M : Type 1} → statement M
-in-mode-spec = tie.close (tie.spec is-operational-requires returns returns-2)
+in-mode-spec = tie.close (tie.spec (λ c κs. search needs) (λ c. search tests) (λ c. search tests))

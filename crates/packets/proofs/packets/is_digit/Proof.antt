@@ -3,14 +3,5 @@ use Rattle.laws.proofs.Tests.{tests}
 use Rattle.packets.proofs.packets.is_digit.Statement.{statement}
 use Rattle.packets.proofs.packets.is_digit.Tie as tie
 
-returns : tie.Need-returns
-returns c = search tests
-
-returns-2 : tie.Need-returns-2
-returns-2 c = search tests
-
-returns-3 : tie.Need-returns-3
-returns-3 c = search tests
-
 pub is-digit-spec : {M : Type 1} → statement M
-is-digit-spec = tie.close (tie.spec returns returns-2 returns-3)
+is-digit-spec = tie.close (tie.spec (λ c. search tests) (λ c. search tests) (λ c. search tests))

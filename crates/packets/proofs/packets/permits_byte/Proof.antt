@@ -16,39 +16,6 @@ use borrow.Author.Needs.{needs}
 use Rattle.packets.proofs.packets.permits_byte.Statement.{statement}
 use Rattle.packets.proofs.packets.permits_byte.Tie as tie
 
-is-digit-requires : tie.Need-is-digit-requires
-is-digit-requires c κs = search needs
-
-is-digit-requires-2 : tie.Need-is-digit-requires-2
-is-digit-requires-2 c κs = search needs
-
-is-digit-requires-3 : tie.Need-is-digit-requires-3
-is-digit-requires-3 c κs = search needs
-
-in-channel-requires : tie.Need-in-channel-requires
-in-channel-requires c κs = search needs
-
-in-position-requires : tie.Need-in-position-requires
-in-position-requires c κs = search needs
-
-in-mode-requires : tie.Need-in-mode-requires
-in-mode-requires c κs = search needs
-
-in-watch-requires : tie.Need-in-watch-requires
-in-watch-requires c κs = search needs
-
-in-effect-requires : tie.Need-in-effect-requires
-in-effect-requires c κs = search needs
-
-in-effect-requires-2 : tie.Need-in-effect-requires-2
-in-effect-requires-2 c κs = search needs
-
-in-request-requires : tie.Need-in-request-requires
-in-request-requires c κs = search needs
-
-in-approval-requires : tie.Need-in-approval-requires
-in-approval-requires c κs = search needs
-
 returns : tie.Need-returns
 returns c =
     let a = c .before .before .args in
@@ -240,43 +207,7 @@ pub permits-byte-spec : {M : Type 1} → statement M
 permits-byte-spec =
     tie.close
     (tie.spec
-    is-digit-requires
-    is-digit-requires-2
-    is-digit-requires-3
-    in-channel-requires
-    in-position-requires
-    in-mode-requires
-    in-watch-requires
-    in-effect-requires
-    in-effect-requires-2
-    in-request-requires
-    in-approval-requires
-    returns
-    returns-2
-    returns-3
-    returns-4
-    returns-5
-    returns-6
-    returns-7
-    returns-8
-    returns-9
-    returns-10
-    returns-11
-    returns-12
-    returns-13
-    returns-14
-    returns-15
-    returns-16
-    returns-17
-    returns-18
-    returns-19
-    returns-20
-    returns-21
-    returns-22
-    returns-23
-    returns-24
-    returns-25
-    returns-26
-    returns-27
-    returns-28
-    returns-29)
+    (λ c κs. search needs) (λ c κs. search needs) (λ c κs. search needs) (λ c κs. search needs) (λ c κs. search needs) (λ c κs. search needs)
+    (λ c κs. search needs) (λ c κs. search needs) (λ c κs. search needs) (λ c κs. search needs) (λ c κs. search needs) returns returns-2 returns-3
+    returns-4 returns-5 returns-6 returns-7 returns-8 returns-9 returns-10 returns-11 returns-12 returns-13 returns-14 returns-15 returns-16
+    returns-17 returns-18 returns-19 returns-20 returns-21 returns-22 returns-23 returns-24 returns-25 returns-26 returns-27 returns-28 returns-29)

@@ -104,21 +104,5 @@ pub list-part-spec : {M : Type 1} → statement M
 list-part-spec =
     tie.close
     (tie.spec
-    Inv-loop
-    μ-loop
-    loop-holds
-    sub-put-next
-    part-put-next-start
-    part-put-next-end
-    put-next-requires
-    enum-known-end
-    wrapping-add-u64-requires
-    add-filled
-    loop-less
-    loop-again
-    enum-told
-    same-length
-    returns
-    enum-told-2
-    same-length-2
-    returns-2)
+    Inv-loop μ-loop loop-holds sub-put-next part-put-next-start part-put-next-end put-next-requires enum-known-end wrapping-add-u64-requires
+    add-filled loop-less loop-again enum-told same-length returns enum-told-2 same-length-2 returns-2)

@@ -7,36 +7,6 @@ use borrow.Author.Needs.{needs}
 use Rattle.pieces.proofs.pieces.put_next.Statement.{statement}
 use Rattle.pieces.proofs.pieces.put_next.Tie as tie
 
-span-of-requires : tie.Need-span-of-requires
-span-of-requires c κs = search needs
-
-enum-known-span : tie.Need-enum-known-span
-enum-known-span c = search needs
-
-wrapping-add-u64-requires : tie.Need-wrapping-add-u64-requires
-wrapping-add-u64-requires c κs = search needs
-
-part-of-requires : tie.Need-part-of-requires
-part-of-requires c κs = search needs
-
-read-requires : tie.Need-read-requires
-read-requires c κs = search needs
-
-put-line-requires : tie.Need-put-line-requires
-put-line-requires c κs = search needs
-
-enum-known-put : tie.Need-enum-known-put
-enum-known-put c = search needs
-
-enum-told : tie.Need-enum-told
-enum-told c = search needs
-
-enum-told-2 : tie.Need-enum-told-2
-enum-told-2 c = search needs
-
-same-length : tie.Need-same-length
-same-length c = search needs
-
 returns : tie.Need-returns
 returns c =
     let a = c .before .before .before .before .before .before .before .before .before .before .before .before .before .before .before .before .args in
@@ -49,9 +19,6 @@ returns c =
     one-put (a .line) (a .ordinal) (a .base) (now (a .s)) (a .from) (now (a .out)) _ _ _ _ (read .result) (put-line .result) _ _
     (sym (span-of .ensures) ∙ span .given .1) (wrapping-add-u64 .ensures) (part-of .ensures) (read .ensures) (put-line .ensures)
     (ap outcomeOf (c .before .put .given .1))
-
-same-length-2 : tie.Need-same-length-2
-same-length-2 c = search needs
 
 returns-2 : tie.Need-returns-2
 returns-2 c =
@@ -75,17 +42,5 @@ pub put-next-spec : {M : Type 1} → statement M
 put-next-spec =
     tie.close
     (tie.spec
-    span-of-requires
-    enum-known-span
-    wrapping-add-u64-requires
-    part-of-requires
-    read-requires
-    put-line-requires
-    enum-known-put
-    enum-told
-    enum-told-2
-    same-length
-    returns
-    same-length-2
-    returns-2
-    returns-3)
+    (λ c κs. search needs) (λ c. search needs) (λ c κs. search needs) (λ c κs. search needs) (λ c κs. search needs) (λ c κs. search needs)
+    (λ c. search needs) (λ c. search needs) (λ c. search needs) (λ c. search needs) returns (λ c. search needs) returns-2 returns-3)

@@ -12,32 +12,11 @@ use borrow.Author.Needs.{needs}
 use Rattle.reading.proofs.reading.contents.Statement.{statement}
 use Rattle.reading.proofs.reading.contents.Tie as tie
 
-byte-at-requires : tie.Need-byte-at-requires
-byte-at-requires c κs = search needs
-
-byte-at-requires-2 : tie.Need-byte-at-requires-2
-byte-at-requires-2 c κs = search needs
-
-form-of-requires : tie.Need-form-of-requires
-form-of-requires c κs = search needs
-
 returns : tie.Need-returns
 returns c =
     let f = c .before .before in let b = f .before .before in let a = b .before .before .args in let s = now (a .s) in
     let row = looked-in (a .line) s _ _ (f .form-of .result) (b .byte-at .ensures) (f .before .byte-at2 .ensures) (f .form-of .ensures) in
     strange-type (a .line) s _ (f .form-of .result) (b .byte-at .ensures) row (not-true (f .form-of .result .found) (c .if1 .taken))
-
-less-requires : tie.Need-less-requires
-less-requires c κs = search needs
-
-part-requires : tie.Need-part-requires
-part-requires c κs = search needs
-
-outside-set-requires : tie.Need-outside-set-requires
-outside-set-requires c κs = search needs
-
-enum-known-strange : tie.Need-enum-known-strange
-enum-known-strange c = search needs
 
 returns-2 : tie.Need-returns-2
 unfolding fieldOf
@@ -48,18 +27,6 @@ returns-2 c =
     let field : now (o .before .part .result) ≡ fieldOf s = o .before .part .ensures ∙ ap (λ (k : ℕ). take k (drop 5 s)) (o .before .before .less .ensures) in
     let place = sym (c .before .strange .given .1) ∙ o .outside-set .ensures ∙ ap (λ (d : List ℕ). outside 5 d) field in
     strange-byte (a .line) s _ (f .form-of .result) (b .byte-at .ensures) row (not-false (f .form-of .result .found) (i .if1 .left)) _ place
-
-enum-told : tie.Need-enum-told
-enum-told c = search needs
-
-byte-at-requires-3 : tie.Need-byte-at-requires-3
-byte-at-requires-3 c κs = search needs
-
-digit-of-requires : tie.Need-digit-of-requires
-digit-of-requires c κs = search needs
-
-in-form-requires : tie.Need-in-form-requires
-in-form-requires c κs = search needs
 
 returns-3 : tie.Need-returns-3
 unfolding fieldOf
@@ -77,17 +44,5 @@ pub contents-spec : {M : Type 1} → statement M
 contents-spec =
     tie.close
     (tie.spec
-    byte-at-requires
-    byte-at-requires-2
-    form-of-requires
-    returns
-    less-requires
-    part-requires
-    outside-set-requires
-    enum-known-strange
-    returns-2
-    enum-told
-    byte-at-requires-3
-    digit-of-requires
-    in-form-requires
-    returns-3)
+    (λ c κs. search needs) (λ c κs. search needs) (λ c κs. search needs) returns (λ c κs. search needs) (λ c κs. search needs) (λ c κs. search needs)
+    (λ c. search needs) returns-2 (λ c. search needs) (λ c κs. search needs) (λ c κs. search needs) (λ c κs. search needs) returns-3)

@@ -8,23 +8,8 @@ use borrow.Author.Needs.{needs}
 use Rattle.reading.proofs.reading.read.Statement.{statement}
 use Rattle.reading.proofs.reading.read.Tie as tie
 
-is-line-requires : tie.Need-is-line-requires
-is-line-requires c κs = search needs
-
 returns : tie.Need-returns
 returns c = no-line (c .before .before .before .args .line) (now (c .before .before .before .args .s)) (sym (c .before .is-line .ensures) ∙ not-true _ (c .if1 .taken))
-
-frame-check-requires : tie.Need-frame-check-requires
-frame-check-requires c κs = search needs
-
-enum-known-check : tie.Need-enum-known-check
-enum-known-check c = search needs
-
-enum-told : tie.Need-enum-told
-enum-told c = search needs
-
-contents-requires : tie.Need-contents-requires
-contents-requires c κs = search needs
 
 returns-2 : tie.Need-returns-2
 returns-2 c =
@@ -45,11 +30,4 @@ pub read-spec : {M : Type 1} → statement M
 read-spec =
     tie.close
     (tie.spec
-    is-line-requires
-    returns
-    frame-check-requires
-    enum-known-check
-    enum-told
-    contents-requires
-    returns-2
-    returns-3)
+    (λ c κs. search needs) returns (λ c κs. search needs) (λ c. search needs) (λ c. search needs) (λ c κs. search needs) returns-2 returns-3)

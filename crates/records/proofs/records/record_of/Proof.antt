@@ -5,42 +5,6 @@ use borrow.Author.Needs.{needs}
 use Rattle.records.proofs.records.record_of.Statement.{statement}
 use Rattle.records.proofs.records.record_of.Tie as tie
 
-array-read-first : tie.Need-array-read-first
-array-read-first c = search needs
-
-array-read-t11 : tie.Need-array-read-t11
-array-read-t11 c = search needs
-
-array-read-t14 : tie.Need-array-read-t14
-array-read-t14 c = search needs
-
-array-read-t17 : tie.Need-array-read-t17
-array-read-t17 c = search needs
-
-radio-of-requires : tie.Need-radio-of-requires
-radio-of-requires c κs = search needs
-
-radio-of-requires-2 : tie.Need-radio-of-requires-2
-radio-of-requires-2 c κs = search needs
-
-array-read-t24 : tie.Need-array-read-t24
-array-read-t24 c = search needs
-
-radio-of-requires-3 : tie.Need-radio-of-requires-3
-radio-of-requires-3 c κs = search needs
-
-array-read-t29 : tie.Need-array-read-t29
-array-read-t29 c = search needs
-
-array-read-t32 : tie.Need-array-read-t32
-array-read-t32 c = search needs
-
-array-read-t35 : tie.Need-array-read-t35
-array-read-t35 c = search needs
-
-array-read-t38 : tie.Need-array-read-t38
-array-read-t38 c = search needs
-
 returns : tie.Need-returns
 unfolding recordOf
 returns c = rw (c .match .keys1)
@@ -118,29 +82,6 @@ pub record-of-spec : {M : Type 1} → statement M
 record-of-spec =
     tie.close
     (tie.spec
-    array-read-first
-    array-read-t11
-    array-read-t14
-    array-read-t17
-    radio-of-requires
-    radio-of-requires-2
-    array-read-t24
-    radio-of-requires-3
-    array-read-t29
-    array-read-t32
-    array-read-t35
-    array-read-t38
-    returns
-    returns-2
-    returns-3
-    returns-4
-    returns-5
-    returns-6
-    returns-7
-    returns-8
-    returns-9
-    returns-10
-    returns-11
-    returns-12
-    returns-13
-    returns-14)
+    (λ c. search needs) (λ c. search needs) (λ c. search needs) (λ c. search needs) (λ c κs. search needs) (λ c κs. search needs) (λ c. search needs)
+    (λ c κs. search needs) (λ c. search needs) (λ c. search needs) (λ c. search needs) (λ c. search needs) returns returns-2 returns-3 returns-4
+    returns-5 returns-6 returns-7 returns-8 returns-9 returns-10 returns-11 returns-12 returns-13 returns-14)

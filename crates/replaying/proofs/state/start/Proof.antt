@@ -7,12 +7,9 @@ use borrow.Author.Needs.{needs}
 use Rattle.replaying.proofs.state.start.Statement.{statement}
 use Rattle.replaying.proofs.state.start.Tie as tie
 
-start-requires : tie.Need-start-requires
-start-requires c κs = search needs
-
 returns : tie.Need-returns
 unfolding begunOn
 returns c = rw (ap {B = Desk} (λ (y : Desk × Done). y .0) (c .before .start .ensures))
 
 pub start-spec : {M : Type 1} → statement M
-start-spec = tie.close (tie.spec start-requires returns)
+start-spec = tie.close (tie.spec (λ c κs. search needs) returns)

@@ -17,9 +17,6 @@ returns-3 : tie.Need-returns-3
 unfolding turnFault
 returns-3 c = search tests
 
-add-if4 : tie.Need-add-if4
-add-if4 c = search needs
-
 returns-4 : tie.Need-returns-4
 unfolding turnFault
 returns-4 c = search tests
@@ -29,4 +26,4 @@ unfolding turnFault
 returns-5 c = search tests
 
 pub turn-check-spec : {M : Type 1} → statement M
-turn-check-spec = tie.close (tie.spec returns returns-2 returns-3 add-if4 returns-4 returns-5)
+turn-check-spec = tie.close (tie.spec returns returns-2 returns-3 (λ c. search needs) returns-4 returns-5)

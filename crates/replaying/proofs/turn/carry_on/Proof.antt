@@ -5,30 +5,6 @@ use borrow.Author.Needs.{needs}
 use Rattle.replaying.proofs.turn.carry_on.Statement.{statement}
 use Rattle.replaying.proofs.turn.carry_on.Tie as tie
 
-part-requires : tie.Need-part-requires
-part-requires c κs = search needs
-
-replay-part-requires : tie.Need-replay-part-requires
-replay-part-requires c κs = search needs
-
-keep-tail-requires : tie.Need-keep-tail-requires
-keep-tail-requires c κs = search needs
-
-wants-for-requires : tie.Need-wants-for-requires
-wants-for-requires c κs = search needs
-
-wrapping-add-u64-requires : tie.Need-wrapping-add-u64-requires
-wrapping-add-u64-requires c κs = search needs
-
-less-requires : tie.Need-less-requires
-less-requires c κs = search needs
-
-same-length : tie.Need-same-length
-same-length c = search needs
-
-same-length-2 : tie.Need-same-length-2
-same-length-2 c = search needs
-
 returns : tie.Need-returns
 returns c =
     let a = c .before .before .before .before .before .before .before .before .before .before .before .before .before .before .before .before .before .args in
@@ -42,12 +18,5 @@ pub carry-on-spec : {M : Type 1} → statement M
 carry-on-spec =
     tie.close
     (tie.spec
-    part-requires
-    replay-part-requires
-    keep-tail-requires
-    wants-for-requires
-    wrapping-add-u64-requires
-    less-requires
-    same-length
-    same-length-2
-    returns)
+    (λ c κs. search needs) (λ c κs. search needs) (λ c κs. search needs) (λ c κs. search needs) (λ c κs. search needs) (λ c κs. search needs)
+    (λ c. search needs) (λ c. search needs) returns)

@@ -7,31 +7,10 @@ use borrow.Author.Needs.{needs}
 use Rattle.replaying.proofs.turn.last.Statement.{statement}
 use Rattle.replaying.proofs.turn.last.Tie as tie
 
-ended-requires : tie.Need-ended-requires
-ended-requires c κs = search needs
-
 returns : tie.Need-returns
 returns c =
     let a = c .before .before .before .before .args in
     none-held (a .replayer) (now (a .out)) _ (c .before .if1 .taken) (c .ended .ensures)
-
-sub-put-refused : tie.Need-sub-put-refused
-sub-put-refused c = search needs
-
-part-put-refused-start : tie.Need-part-put-refused-start
-part-put-refused-start c = search needs
-
-part-put-refused-end : tie.Need-part-put-refused-end
-part-put-refused-end c = search needs
-
-put-refused-requires : tie.Need-put-refused-requires
-put-refused-requires c κs = search needs
-
-ended-requires-2 : tie.Need-ended-requires-2
-ended-requires-2 c κs = search needs
-
-same-length : tie.Need-same-length
-same-length c = search needs
 
 returns-2 : tie.Need-returns-2
 returns-2 c =
@@ -44,12 +23,5 @@ pub last-spec : {M : Type 1} → statement M
 last-spec =
     tie.close
     (tie.spec
-    ended-requires
-    returns
-    sub-put-refused
-    part-put-refused-start
-    part-put-refused-end
-    put-refused-requires
-    ended-requires-2
-    same-length
-    returns-2)
+    (λ c κs. search needs) returns (λ c. search needs) (λ c. search needs) (λ c. search needs) (λ c κs. search needs) (λ c κs. search needs)
+    (λ c. search needs) returns-2)

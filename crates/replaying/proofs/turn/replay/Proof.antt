@@ -10,12 +10,6 @@ use borrow.Author.Needs.{needs}
 use Rattle.replaying.proofs.turn.replay.Statement.{statement}
 use Rattle.replaying.proofs.turn.replay.Tie as tie
 
-turn-check-requires : tie.Need-turn-check-requires
-turn-check-requires c κs = search needs
-
-enum-known-check : tie.Need-enum-known-check
-enum-known-check c = search needs
-
 returns : tie.Need-returns
 returns c =
     let a = c .before .before .before .before .before .before .args in
@@ -30,18 +24,12 @@ add-n c =
     let f = fits (a .replayer .held) _ (a .got) _ (sym (ap faultOf (c .before .enum-told .given .1)) ∙ c .before .before .before .turn-check .ensures) in
     omega (arith, f .bytes)
 
-enum-told-2 : tie.Need-enum-told-2
-enum-told-2 c = search needs
-
 last-requires : tie.Need-last-requires
 last-requires c κs =
     let a = c .before .before .before .before .before .before .before .before .before .before .args in
     let turn-check = c .before .before .before .before .before .before .before .turn-check in
     let enum-told = c .before .before .before .before .before .enum-told in
     fits (a .replayer .held) _ (a .got) _ (sym (ap faultOf (enum-told .given .1)) ∙ turn-check .ensures) .row
-
-same-length : tie.Need-same-length
-same-length c = search needs
 
 returns-2 : tie.Need-returns-2
 returns-2 c =
@@ -53,27 +41,6 @@ returns-2 c =
     wanted (a .replayer) (now (a .buf)) (a .got) (now (a .out)) Read _ (sym (ap faultOf (enum-told .given .1)) ∙ turn-check .ensures)
     (enum-told2 .given .1) (none-read (a .replayer) (now (a .buf)) (a .got) (now (a .out)) _ (if1 .taken) (c .before .before .last .ensures))
 
-carry-on-requires : tie.Need-carry-on-requires
-carry-on-requires c κs = search needs
-
-enum-told-3 : tie.Need-enum-told-3
-enum-told-3 c = search needs
-
-carry-on-requires-2 : tie.Need-carry-on-requires-2
-carry-on-requires-2 c κs = search needs
-
-enum-told-4 : tie.Need-enum-told-4
-enum-told-4 c = search needs
-
-ended-requires : tie.Need-ended-requires
-ended-requires c κs = search needs
-
-same-length-2 : tie.Need-same-length-2
-same-length-2 c = search needs
-
-same-length-3 : tie.Need-same-length-3
-same-length-3 c = search needs
-
 returns-3 : tie.Need-returns-3
 returns-3 c =
     let a = c .before .before .before .before .before .before .before .before .before .before .before .before .before .before .before .before .args in
@@ -84,12 +51,6 @@ returns-3 c =
     let carry-on = c .before .before .before .before .carry-on in
     wanted (a .replayer) (now (a .buf)) (a .got) (now (a .out)) Read _ (sym (ap faultOf (enum-told .given .1)) ∙ turn-check .ensures)
     (enum-told2 .given .1) (some-read (a .replayer) (now (a .buf)) (a .got) (now (a .out)) _ (if1 .left) (carry-on .ensures))
-
-same-length-4 : tie.Need-same-length-4
-same-length-4 c = search needs
-
-same-length-5 : tie.Need-same-length-5
-same-length-5 c = search needs
 
 returns-4 : tie.Need-returns-4
 returns-4 c =
@@ -113,24 +74,6 @@ pub replay-spec : {M : Type 1} → statement M
 replay-spec =
     tie.close
     (tie.spec
-    turn-check-requires
-    enum-known-check
-    returns
-    enum-told
-    add-n
-    enum-told-2
-    last-requires
-    same-length
-    returns-2
-    carry-on-requires
-    enum-told-3
-    carry-on-requires-2
-    enum-told-4
-    ended-requires
-    same-length-2
-    same-length-3
-    returns-3
-    same-length-4
-    same-length-5
-    returns-4
-    returns-5)
+    (λ c κs. search needs) (λ c. search needs) returns enum-told add-n (λ c. search needs) last-requires (λ c. search needs) returns-2
+    (λ c κs. search needs) (λ c. search needs) (λ c κs. search needs) (λ c. search needs) (λ c κs. search needs) (λ c. search needs)
+    (λ c. search needs) returns-3 (λ c. search needs) (λ c. search needs) returns-4 returns-5)

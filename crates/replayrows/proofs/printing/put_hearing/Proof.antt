@@ -6,27 +6,6 @@ use borrow.Author.Needs.{needs}
 use Rattle.replayrows.proofs.printing.put_hearing.Statement.{statement}
 use Rattle.replayrows.proofs.printing.put_hearing.Tie as tie
 
-begin-requires : tie.Need-begin-requires
-begin-requires c κs = search needs
-
-put-heard-requires : tie.Need-put-heard-requires
-put-heard-requires c κs = search needs
-
-slice-aggregate-first : tie.Need-slice-aggregate-first
-slice-aggregate-first c = search needs
-
-sent-count-requires : tie.Need-sent-count-requires
-sent-count-requires c κs = search needs
-
-first-requires : tie.Need-first-requires
-first-requires c κs = search needs
-
-put-byte-requires : tie.Need-put-byte-requires
-put-byte-requires c κs = search needs
-
-same-length : tie.Need-same-length
-same-length c = search needs
-
 returns : tie.Need-returns
 unfolding heardText
 returns c =
@@ -41,11 +20,5 @@ pub put-hearing-spec : {M : Type 1} → statement M
 put-hearing-spec =
     tie.close
     (tie.spec
-    begin-requires
-    put-heard-requires
-    slice-aggregate-first
-    sent-count-requires
-    first-requires
-    put-byte-requires
-    same-length
-    returns)
+    (λ c κs. search needs) (λ c κs. search needs) (λ c. search needs) (λ c κs. search needs) (λ c κs. search needs) (λ c κs. search needs)
+    (λ c. search needs) returns)

@@ -7,36 +7,6 @@ use borrow.Author.Needs.{needs}
 use Rattle.replays.proofs.part.put_next.Statement.{statement}
 use Rattle.replays.proofs.part.put_next.Tie as tie
 
-next-record-requires : tie.Need-next-record-requires
-next-record-requires c κs = search needs
-
-enum-known-next : tie.Need-enum-known-next
-enum-known-next c = search needs
-
-bytes-of-requires : tie.Need-bytes-of-requires
-bytes-of-requires c κs = search needs
-
-put-row-requires : tie.Need-put-row-requires
-put-row-requires c κs = search needs
-
-rowed-requires : tie.Need-rowed-requires
-rowed-requires c κs = search needs
-
-enum-told : tie.Need-enum-told
-enum-told c = search needs
-
-enum-known-next-2 : tie.Need-enum-known-next-2
-enum-known-next-2 c = search needs
-
-number-of-requires : tie.Need-number-of-requires
-number-of-requires c κs = search needs
-
-refused-requires : tie.Need-refused-requires
-refused-requires c κs = search needs
-
-same-length : tie.Need-same-length
-same-length c = search needs
-
 returns : tie.Need-returns
 returns c =
     let a = c .before .before .before .before .before .before .before .before .before .before .before .before .args in
@@ -52,9 +22,6 @@ returns-2 c =
     let a = c .before .before .before .before .before .args in
     on-nothing (a .desk) (a .ordinal) (a .offset) (now (a .s)) (a .from) (now (a .out)) _ (c .before .before .next-record .ensures) (ap nextOf (c .enum-told .given .1))
 
-same-length-2 : tie.Need-same-length-2
-same-length-2 c = search needs
-
 returns-3 : tie.Need-returns-3
 returns-3 c =
     let a = c .before .before .before .before .before .before .before .before .before .before .before .args in
@@ -68,17 +35,5 @@ pub put-next-spec : {M : Type 1} → statement M
 put-next-spec =
     tie.close
     (tie.spec
-    next-record-requires
-    enum-known-next
-    bytes-of-requires
-    put-row-requires
-    rowed-requires
-    enum-told
-    enum-known-next-2
-    number-of-requires
-    refused-requires
-    same-length
-    returns
-    returns-2
-    same-length-2
-    returns-3)
+    (λ c κs. search needs) (λ c. search needs) (λ c κs. search needs) (λ c κs. search needs) (λ c κs. search needs) (λ c. search needs)
+    (λ c. search needs) (λ c κs. search needs) (λ c κs. search needs) (λ c. search needs) returns returns-2 (λ c. search needs) returns-3)

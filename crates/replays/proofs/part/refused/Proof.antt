@@ -14,12 +14,6 @@ returns : tie.Need-returns
 unfolding refusedPut
 returns c = rw (eq-eqb (c .before .before .args .number) 20 (c .if1 .taken))
 
-put-refused-requires : tie.Need-put-refused-requires
-put-refused-requires c κs = search needs
-
-same-length : tie.Need-same-length
-same-length c = search needs
-
 returns-2 : tie.Need-returns-2
 unfolding refusedPut
 returns-2 c =
@@ -27,4 +21,4 @@ returns-2 c =
     rw (ne-eqb (a .number) 20 (c .before .before .before .before .if1 .left)) (ap {B = Put × List ℕ} (λ (y : ℕ × List ℕ). textPut (a .desk) (a .from) Over y) (c .before .before .put-refused .ensures))
 
 pub refused-spec : {M : Type 1} → statement M
-refused-spec = tie.close (tie.spec returns put-refused-requires same-length returns-2)
+refused-spec = tie.close (tie.spec returns (λ c κs. search needs) (λ c. search needs) returns-2)

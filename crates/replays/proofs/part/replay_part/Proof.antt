@@ -119,22 +119,5 @@ pub replay-part-spec : {M : Type 1} → statement M
 replay-part-spec =
     tie.close
     (tie.spec
-    Inv-loop
-    μ-loop
-    loop-holds
-    sub-loop
-    wrapping-add-u64-requires
-    add-end
-    sub-put-next
-    part-put-next-start
-    part-put-next-end
-    put-next-requires
-    add-filled
-    goes-requires
-    same-length
-    returns
-    wrapping-add-u64-requires-2
-    loop-less
-    loop-again
-    same-length-2
-    returns-2)
+    Inv-loop μ-loop loop-holds sub-loop wrapping-add-u64-requires add-end sub-put-next part-put-next-start part-put-next-end put-next-requires
+    add-filled goes-requires same-length returns wrapping-add-u64-requires-2 loop-less loop-again same-length-2 returns-2)

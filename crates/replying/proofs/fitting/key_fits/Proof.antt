@@ -5,12 +5,6 @@ use borrow.Author.Needs.{needs}
 use Rattle.replying.proofs.fitting.key_fits.Statement.{statement}
 use Rattle.replying.proofs.fitting.key_fits.Tie as tie
 
-line-of-requires : tie.Need-line-of-requires
-line-of-requires c κs = search needs
-
-is-key-requires : tie.Need-is-key-requires
-is-key-requires c κs = search needs
-
 returns : tie.Need-returns
 returns c = let a = c .before .before .before .args in c .is-key .ensures ∙ fits-keyed (a .line) (a .key) _ (c .before .before .line-of .ensures) (c .before .if1 .taken)
 
@@ -18,4 +12,4 @@ returns-2 : tie.Need-returns-2
 returns-2 c = let a = c .before .before .args in fits-plain (a .line) (a .key) _ (c .before .line-of .ensures) (c .if1 .left)
 
 pub key-fits-spec : {M : Type 1} → statement M
-key-fits-spec = tie.close (tie.spec line-of-requires is-key-requires returns returns-2)
+key-fits-spec = tie.close (tie.spec (λ c κs. search needs) (λ c κs. search needs) returns returns-2)

@@ -10,15 +10,6 @@ use borrow.Author.Needs.{needs}
 use Rattle.replying.proofs.fitting.may_reply.Statement.{statement}
 use Rattle.replying.proofs.fitting.may_reply.Tie as tie
 
-type-of-requires : tie.Need-type-of-requires
-type-of-requires c κs = search needs
-
-data-type-requires : tie.Need-data-type-requires
-data-type-requires c κs = search needs
-
-permits-record-requires : tie.Need-permits-record-requires
-permits-record-requires c κs = search needs
-
 returns : tie.Need-returns
 unfolding mayReply
 returns c = let s = c .before .before .before .before .args in
@@ -34,4 +25,4 @@ returns-2 c = let s = c .before .before .before .args in
 pub may-reply-spec : {M : Type 1} → statement M
 may-reply-spec =
     tie.close
-    (tie.spec type-of-requires data-type-requires permits-record-requires returns returns-2)
+    (tie.spec (λ c κs. search needs) (λ c κs. search needs) (λ c κs. search needs) returns returns-2)

@@ -4,15 +4,6 @@ use borrow.Author.Needs.{needs}
 use Rattle.replying.proofs.fitting.wanted_fits.Statement.{statement}
 use Rattle.replying.proofs.fitting.wanted_fits.Tie as tie
 
-enum-told : tie.Need-enum-told
-enum-told c = search needs
-
-enum-known-wanted : tie.Need-enum-known-wanted
-enum-known-wanted c = search needs
-
-may-reply-requires : tie.Need-may-reply-requires
-may-reply-requires c κs = search needs
-
 returns : tie.Need-returns
 unfolding wantedFits
 returns c = rw (c .enum-told .given .1)
@@ -23,4 +14,4 @@ returns-2 c = rw (c .before .before .wanted .given .1) (c .may-reply .ensures)
 
 pub wanted-fits-spec : {M : Type 1} → statement M
 wanted-fits-spec =
-    tie.close (tie.spec enum-told enum-known-wanted may-reply-requires returns returns-2)
+    tie.close (tie.spec (λ c. search needs) (λ c. search needs) (λ c κs. search needs) returns returns-2)

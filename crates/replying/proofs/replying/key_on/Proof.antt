@@ -4,9 +4,6 @@ use borrow.Author.Needs.{needs}
 use Rattle.replying.proofs.replying.key_on.Statement.{statement}
 use Rattle.replying.proofs.replying.key_on.Tie as tie
 
-line-of-requires : tie.Need-line-of-requires
-line-of-requires c κs = search needs
-
 returns : tie.Need-returns
 returns c = let a = c .before .before .args in on-keyed (a .line) (a .key) _ (c .before .line-of .ensures) (c .if1 .taken)
 
@@ -14,4 +11,4 @@ returns-2 : tie.Need-returns-2
 returns-2 c = let a = c .before .before .args in on-plain (a .line) (a .key) _ (c .before .line-of .ensures) (c .if1 .left)
 
 pub key-on-spec : {M : Type 1} → statement M
-key-on-spec = tie.close (tie.spec line-of-requires returns returns-2)
+key-on-spec = tie.close (tie.spec (λ c κs. search needs) returns returns-2)

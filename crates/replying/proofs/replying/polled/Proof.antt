@@ -5,12 +5,6 @@ use borrow.Author.Needs.{needs}
 use Rattle.replying.proofs.replying.polled.Statement.{statement}
 use Rattle.replying.proofs.replying.polled.Tie as tie
 
-key-on-requires : tie.Need-key-on-requires
-key-on-requires c κs = search needs
-
-cast-t7 : tie.Need-cast-t7
-cast-t7 c = search needs
-
 returns : tie.Need-returns
 unfolding polledOf
 returns c = rw (c .key-on .ensures, eq-eqb (c .before .before .args .queued) 0 (c .before .if1 .taken))
@@ -20,4 +14,4 @@ unfolding polledOf
 returns-2 c = rw (ne-eqb (c .before .args .queued) 0 (c .if1 .left))
 
 pub polled-spec : {M : Type 1} → statement M
-polled-spec = tie.close (tie.spec key-on-requires cast-t7 returns returns-2)
+polled-spec = tie.close (tie.spec (λ c κs. search needs) (λ c. search needs) returns returns-2)

@@ -13,12 +13,9 @@ returns-2 : tie.Need-returns-2
 unfolding keptFits
 returns-2 c = search tests
 
-add-result : tie.Need-add-result
-add-result c = search needs
-
 returns-3 : tie.Need-returns-3
 unfolding keptFits
 returns-3 c = search tests
 
 pub kept-fits-spec : {M : Type 1} → statement M
-kept-fits-spec = tie.close (tie.spec returns returns-2 add-result returns-3)
+kept-fits-spec = tie.close (tie.spec returns returns-2 (λ c. search needs) returns-3)

@@ -73,15 +73,4 @@ pub queue-fits-spec : {M : Type 1} → statement M
 queue-fits-spec =
     tie.close
     (tie.spec
-    Inv-loop
-    μ-loop
-    loop-holds
-    returns
-    mul-waiting
-    array-copy-out-waiting
-    may-reply-requires
-    returns-2
-    add-i
-    loop-less
-    loop-again
-    returns-3)
+    Inv-loop μ-loop loop-holds returns mul-waiting array-copy-out-waiting may-reply-requires returns-2 add-i loop-less loop-again returns-3)

@@ -51,17 +51,5 @@ pub next-row-spec : {M : Type 1} → statement M
 next-row-spec =
     tie.close
     (tie.spec
-    Inv-loop
-    μ-loop
-    loop-holds
-    open-requires
-    step-requires
-    sub-turns
-    loop-less
-    loop-again
-    same-length
-    same-length-2
-    returns
-    same-length-3
-    same-length-4
-    returns-2)
+    Inv-loop μ-loop loop-holds open-requires step-requires sub-turns loop-less loop-again same-length same-length-2 returns same-length-3
+    same-length-4 returns-2)

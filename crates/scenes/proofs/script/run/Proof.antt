@@ -75,22 +75,5 @@ pub run-spec : {M : Type 1} → statement M
 run-spec =
     tie.close
     (tie.spec
-    Inv-loop
-    μ-loop
-    blank-requires
-    first-row-requires
-    loop-holds
-    part-requires
-    on-row-requires
-    next-row-requires
-    sub-turns
-    loop-less
-    loop-again
-    same-length
-    same-length-2
-    same-length-3
-    returns
-    same-length-4
-    same-length-5
-    same-length-6
-    returns-2)
+    Inv-loop μ-loop blank-requires first-row-requires loop-holds part-requires on-row-requires next-row-requires sub-turns loop-less loop-again
+    same-length same-length-2 same-length-3 returns same-length-4 same-length-5 same-length-6 returns-2)

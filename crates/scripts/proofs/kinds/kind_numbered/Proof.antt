@@ -5,9 +5,6 @@ use borrow.Author.Needs.{needs}
 use Rattle.scripts.proofs.kinds.kind_numbered.Statement.{statement}
 use Rattle.scripts.proofs.kinds.kind_numbered.Tie as tie
 
-unnamed-requires : tie.Need-unnamed-requires
-unnamed-requires c κs = search needs
-
 returns : tie.Need-returns
 unfolding kindNumbered
 returns c = rw (c .match .keys1)
@@ -27,4 +24,4 @@ returns-4 c =
     rw (ne-eqb _ _ (m .0 .0 .1), ne-eqb _ _ (m .0 .1), ne-eqb _ _ (m .1)) (c .unnamed .ensures)
 
 pub kind-numbered-spec : {M : Type 1} → statement M
-kind-numbered-spec = tie.close (tie.spec unnamed-requires returns returns-2 returns-3 returns-4)
+kind-numbered-spec = tie.close (tie.spec (λ c κs. search needs) returns returns-2 returns-3 returns-4)

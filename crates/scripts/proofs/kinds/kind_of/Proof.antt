@@ -9,18 +9,6 @@ use borrow.Author.Needs.{needs}
 use Rattle.scripts.proofs.kinds.kind_of.Statement.{statement}
 use Rattle.scripts.proofs.kinds.kind_of.Tie as tie
 
-slice-aggregate-word-place : tie.Need-slice-aggregate-word-place
-slice-aggregate-word-place c = search needs
-
-word-requires : tie.Need-word-requires
-word-requires c κs = search needs
-
-word-place-requires : tie.Need-word-place-requires
-word-place-requires c κs = search needs
-
-kind-numbered-requires : tie.Need-kind-numbered-requires
-kind-numbered-requires c κs = search needs
-
 returns : tie.Need-returns
 unfolding kindOf
 returns c =
@@ -32,8 +20,4 @@ pub kind-of-spec : {M : Type 1} → statement M
 kind-of-spec =
     tie.close
     (tie.spec
-    slice-aggregate-word-place
-    word-requires
-    word-place-requires
-    kind-numbered-requires
-    returns)
+    (λ c. search needs) (λ c κs. search needs) (λ c κs. search needs) (λ c κs. search needs) returns)

@@ -9,9 +9,6 @@ returns : tie.Need-returns
 unfolding unnamedOf
 returns c = rw (c .if1 .taken)
 
-shared-slice-read-if2 : tie.Need-shared-slice-read-if2
-shared-slice-read-if2 c = search needs
-
 returns-2 : tie.Need-returns-2
 unfolding unnamedOf
 returns-2 c = rw (ne-eqb _ _ (c .before .before .if1 .left), c .if2 .taken)
@@ -21,4 +18,4 @@ unfolding unnamedOf
 returns-3 c = rw (ne-eqb _ _ (c .before .before .if1 .left), ne-eqb _ _ (c .if2 .left))
 
 pub unnamed-spec : {M : Type 1} → statement M
-unnamed-spec = tie.close (tie.spec returns shared-slice-read-if2 returns-2 returns-3)
+unnamed-spec = tie.close (tie.spec returns (λ c. search needs) returns-2 returns-3)

@@ -5,12 +5,6 @@ use borrow.Author.Needs.{needs}
 use Rattle.scripts.proofs.meanings.room.Statement.{statement}
 use Rattle.scripts.proofs.meanings.room.Tie as tie
 
-word-value-requires : tie.Need-word-value-requires
-word-value-requires c κs = search needs
-
-cast-result : tie.Need-cast-result
-cast-result c = search needs
-
 returns : tie.Need-returns
 unfolding roomOf
 returns c = rw (← (c .before .word-value .ensures), lt-ltb _ _ (c .if1 .taken))
@@ -20,4 +14,4 @@ unfolding roomOf
 returns-2 c = rw (← (c .before .word-value .ensures), le-ltb _ _ (c .if1 .left))
 
 pub room-spec : {M : Type 1} → statement M
-room-spec = tie.close (tie.spec word-value-requires cast-result returns returns-2)
+room-spec = tie.close (tie.spec (λ c κs. search needs) (λ c. search needs) returns returns-2)

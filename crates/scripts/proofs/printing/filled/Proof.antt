@@ -46,13 +46,4 @@ pub filled-spec : {M : Type 1} → statement M
 filled-spec =
     tie.close
     (tie.spec
-    Inv-loop
-    μ-loop
-    loop-holds
-    sub-byte-at
-    byte-at-requires
-    returns
-    sub-n
-    loop-less
-    loop-again
-    returns-2)
+    Inv-loop μ-loop loop-holds sub-byte-at byte-at-requires returns sub-n loop-less loop-again returns-2)

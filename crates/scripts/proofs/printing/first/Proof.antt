@@ -14,18 +14,6 @@ returns : tie.Need-returns
 unfolding firstText puts
 returns c = rw (c .if1 .taken)
 
-put-text-requires : tie.Need-put-text-requires
-put-text-requires c κs = search needs
-
-part-requires : tie.Need-part-requires
-part-requires c κs = search needs
-
-put-shown-requires : tie.Need-put-shown-requires
-put-shown-requires c κs = search needs
-
-same-length : tie.Need-same-length
-same-length c = search needs
-
 returns-2 : tie.Need-returns-2
 unfolding firstText
 returns-2 c =
@@ -37,4 +25,4 @@ returns-2 c =
 pub first-spec : {M : Type 1} → statement M
 first-spec =
     tie.close
-    (tie.spec returns put-text-requires part-requires put-shown-requires same-length returns-2)
+    (tie.spec returns (λ c κs. search needs) (λ c κs. search needs) (λ c κs. search needs) (λ c. search needs) returns-2)

@@ -4,27 +4,9 @@ use borrow.Author.Needs.{needs}
 use Rattle.scripts.proofs.printing.line.Statement.{statement}
 use Rattle.scripts.proofs.printing.line.Tie as tie
 
-slice-aggregate-put-text : tie.Need-slice-aggregate-put-text
-slice-aggregate-put-text c = search needs
-
-put-text-requires : tie.Need-put-text-requires
-put-text-requires c κs = search needs
-
-same-length : tie.Need-same-length
-same-length c = search needs
-
 returns : tie.Need-returns
 unfolding lineText
 returns c = rw (c .before .before .before .before .before .if1 .taken) (c .before .before .put-text .ensures)
-
-slice-aggregate-put-text-2 : tie.Need-slice-aggregate-put-text-2
-slice-aggregate-put-text-2 c = search needs
-
-put-text-requires-2 : tie.Need-put-text-requires-2
-put-text-requires-2 c κs = search needs
-
-same-length-2 : tie.Need-same-length-2
-same-length-2 c = search needs
 
 returns-2 : tie.Need-returns-2
 unfolding lineText
@@ -34,11 +16,4 @@ pub line-spec : {M : Type 1} → statement M
 line-spec =
     tie.close
     (tie.spec
-    slice-aggregate-put-text
-    put-text-requires
-    same-length
-    returns
-    slice-aggregate-put-text-2
-    put-text-requires-2
-    same-length-2
-    returns-2)
+    (λ c. search needs) (λ c κs. search needs) (λ c. search needs) returns (λ c. search needs) (λ c κs. search needs) (λ c. search needs) returns-2)

@@ -5,18 +5,9 @@ use borrow.Author.Needs.{needs}
 use Rattle.scripts.proofs.printing.number.Statement.{statement}
 use Rattle.scripts.proofs.printing.number.Tie as tie
 
-put-text-requires : tie.Need-put-text-requires
-put-text-requires c κs = search needs
-
-put-number-requires : tie.Need-put-number-requires
-put-number-requires c κs = search needs
-
-same-length : tie.Need-same-length
-same-length c = search needs
-
 returns : tie.Need-returns
 unfolding numberText
 returns c = search then
 
 pub number-spec : {M : Type 1} → statement M
-number-spec = tie.close (tie.spec put-text-requires put-number-requires same-length returns)
+number-spec = tie.close (tie.spec (λ c κs. search needs) (λ c κs. search needs) (λ c. search needs) returns)

@@ -8,18 +8,6 @@ use borrow.Author.Needs.{needs}
 use Rattle.scripts.proofs.printing.output.Statement.{statement}
 use Rattle.scripts.proofs.printing.output.Tie as tie
 
-slice-aggregate-first : tie.Need-slice-aggregate-first
-slice-aggregate-first c = search needs
-
-filled-requires : tie.Need-filled-requires
-filled-requires c κs = search needs
-
-first-requires : tie.Need-first-requires
-first-requires c κs = search needs
-
-same-length : tie.Need-same-length
-same-length c = search needs
-
 returns : tie.Need-returns
 unfolding outputText
 returns c =
@@ -28,4 +16,4 @@ returns c =
 
 pub output-spec : {M : Type 1} → statement M
 output-spec =
-    tie.close (tie.spec slice-aggregate-first filled-requires first-requires same-length returns)
+    tie.close (tie.spec (λ c. search needs) (λ c κs. search needs) (λ c κs. search needs) (λ c. search needs) returns)

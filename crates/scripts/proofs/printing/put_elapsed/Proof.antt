@@ -9,30 +9,6 @@ use borrow.Author.Needs.{needs}
 use Rattle.scripts.proofs.printing.put_elapsed.Statement.{statement}
 use Rattle.scripts.proofs.printing.put_elapsed.Tie as tie
 
-word-value-requires : tie.Need-word-value-requires
-word-value-requires c κs = search needs
-
-word-value-requires-2 : tie.Need-word-value-requires-2
-word-value-requires-2 c κs = search needs
-
-elapsed-requires : tie.Need-elapsed-requires
-elapsed-requires c κs = search needs
-
-begin-requires : tie.Need-begin-requires
-begin-requires c κs = search needs
-
-cast-put-number : tie.Need-cast-put-number
-cast-put-number c = search needs
-
-put-number-requires : tie.Need-put-number-requires
-put-number-requires c κs = search needs
-
-put-byte-requires : tie.Need-put-byte-requires
-put-byte-requires c κs = search needs
-
-same-length : tie.Need-same-length
-same-length c = search needs
-
 returns : tie.Need-returns
 unfolding elapsedText
 returns c =
@@ -48,12 +24,5 @@ pub put-elapsed-spec : {M : Type 1} → statement M
 put-elapsed-spec =
     tie.close
     (tie.spec
-    word-value-requires
-    word-value-requires-2
-    elapsed-requires
-    begin-requires
-    cast-put-number
-    put-number-requires
-    put-byte-requires
-    same-length
-    returns)
+    (λ c κs. search needs) (λ c κs. search needs) (λ c κs. search needs) (λ c κs. search needs) (λ c. search needs) (λ c κs. search needs)
+    (λ c κs. search needs) (λ c. search needs) returns)

@@ -65,15 +65,4 @@ pub near-lf-spec : {M : Type 1} → statement M
 near-lf-spec =
     tie.close
     (tie.spec
-    Inv-loop
-    μ-loop
-    less-requires
-    loop-holds
-    returns
-    sub-if2
-    shared-slice-read-if2
-    returns-2
-    add-back
-    loop-less
-    loop-again
-    returns-3)
+    Inv-loop μ-loop less-requires loop-holds returns sub-if2 shared-slice-read-if2 returns-2 add-back loop-less loop-again returns-3)

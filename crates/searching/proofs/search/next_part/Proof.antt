@@ -8,19 +8,10 @@ use borrow.Author.Needs.{needs}
 use Rattle.searching.proofs.search.next_part.Statement.{statement}
 use Rattle.searching.proofs.search.next_part.Tie as tie
 
-span-of-requires : tie.Need-span-of-requires
-span-of-requires c κs = search needs
-
-offset-of-requires : tie.Need-offset-of-requires
-offset-of-requires c κs = search needs
-
-part-of-requires : tie.Need-part-of-requires
-part-of-requires c κs = search needs
-
 returns : tie.Need-returns
 returns c =
     let s = now (c .before .before .before .before .args .s) in
     ap₂ (λ (o : ℕ) (p : List ℕ). (o, p)) (c .before .offset-of .ensures) (c .part-of .ensures) ∙ ap (offsetPart s) (c .before .before .span-of .ensures)
 
 pub next-part-spec : {M : Type 1} → statement M
-next-part-spec = tie.close (tie.spec span-of-requires offset-of-requires part-of-requires returns)
+next-part-spec = tie.close (tie.spec (λ c κs. search needs) (λ c κs. search needs) (λ c κs. search needs) returns)

@@ -71,16 +71,4 @@ pub span-of-spec : {M : Type 1} → statement M
 span-of-spec =
     tie.close
     (tie.spec
-    Inv-loop
-    μ-loop
-    loop-holds
-    next-cr-requires
-    returns
-    near-lf-requires
-    sub-t8
-    add-t9
-    returns-2
-    add-place
-    loop-less
-    loop-again
-    returns-3)
+    Inv-loop μ-loop loop-holds next-cr-requires returns near-lf-requires sub-t8 add-t9 returns-2 add-place loop-less loop-again returns-3)

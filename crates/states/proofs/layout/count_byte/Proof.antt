@@ -5,14 +5,5 @@ use borrow.Author.Needs.{needs}
 use Rattle.states.proofs.layout.count_byte.Statement.{statement}
 use Rattle.states.proofs.layout.count_byte.Tie as tie
 
-cast-result : tie.Need-cast-result
-cast-result c = search needs
-
-returns : tie.Need-returns
-returns c = sym (small _ (c .if1 .taken))
-
-returns-2 : tie.Need-returns-2
-returns-2 c = large _ (c .if1 .left)
-
 pub count-byte-spec : {M : Type 1} → statement M
-count-byte-spec = tie.close (tie.spec cast-result returns returns-2)
+count-byte-spec = tie.close (tie.spec (λ c. search needs) (λ c. sym (small _ (c .if1 .taken))) (λ c. large _ (c .if1 .left)))

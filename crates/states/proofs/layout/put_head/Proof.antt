@@ -4,24 +4,6 @@ use borrow.Author.Needs.{needs}
 use Rattle.states.proofs.layout.put_head.Statement.{statement}
 use Rattle.states.proofs.layout.put_head.Tie as tie
 
-put-byte-requires : tie.Need-put-byte-requires
-put-byte-requires c κs = search needs
-
-flag-byte-requires : tie.Need-flag-byte-requires
-flag-byte-requires c κs = search needs
-
-put-byte-requires-2 : tie.Need-put-byte-requires-2
-put-byte-requires-2 c κs = search needs
-
-put-byte-requires-3 : tie.Need-put-byte-requires-3
-put-byte-requires-3 c κs = search needs
-
-put-byte-requires-4 : tie.Need-put-byte-requires-4
-put-byte-requires-4 c κs = search needs
-
-same-length : tie.Need-same-length
-same-length c = search needs
-
 returns : tie.Need-returns
 returns c =
     let p = c .before .before in
@@ -36,10 +18,4 @@ pub put-head-spec : {M : Type 1} → statement M
 put-head-spec =
     tie.close
     (tie.spec
-    put-byte-requires
-    flag-byte-requires
-    put-byte-requires-2
-    put-byte-requires-3
-    put-byte-requires-4
-    same-length
-    returns)
+    (λ c κs. search needs) (λ c κs. search needs) (λ c κs. search needs) (λ c κs. search needs) (λ c κs. search needs) (λ c. search needs) returns)

@@ -74,21 +74,5 @@ pub read-full-spec : {M : Type 1} → statement M
 read-full-spec =
     tie.close
     (tie.spec
-    Inv-loop
-    μ-loop
-    loop-holds
-    same-length
-    returns
-    read-more-requires
-    enum-known-got
-    enum-told
-    same-length-2
-    returns-2
-    same-length-3
-    returns-3
-    add-n
-    sub-turns
-    loop-less
-    loop-again
-    same-length-4
-    returns-4)
+    Inv-loop μ-loop loop-holds same-length returns read-more-requires enum-known-got enum-told same-length-2 returns-2 same-length-3 returns-3 add-n
+    sub-turns loop-less loop-again same-length-4 returns-4)

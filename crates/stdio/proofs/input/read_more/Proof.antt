@@ -99,29 +99,6 @@ pub read-more-spec : {M : Type 1} → statement M
 read-more-spec =
     tie.close
     (tie.spec
-    Inv-loop
-    μ-loop
-    complain-requires
-    slice-aggregate-complain
-    complain-requires-2
-    returns
-    loop-holds
-    sub-read
-    part-read-start
-    part-read-end
-    read-requires
-    sub-count
-    part-count-start
-    part-count-end
-    count-requires
-    same-length
-    returns-2
-    try-again-requires
-    fail-requires
-    same-length-2
-    returns-3
-    sub-turns
-    loop-less
-    loop-again
-    same-length-3
-    returns-4)
+    Inv-loop μ-loop complain-requires slice-aggregate-complain complain-requires-2 returns loop-holds sub-read part-read-start part-read-end
+    read-requires sub-count part-count-start part-count-end count-requires same-length returns-2 try-again-requires fail-requires same-length-2
+    returns-3 sub-turns loop-less loop-again same-length-3 returns-4)

@@ -72,24 +72,5 @@ pub write-out-spec : {M : Type 1} → statement M
 write-out-spec =
     tie.close
     (tie.spec
-    Inv-loop
-    μ-loop
-    part-requires
-    loop-holds
-    returns
-    sub-write
-    part-write-start
-    part-write-end
-    write-requires
-    try-again-requires
-    fail-requires
-    returns-2
-    sub-count
-    part-count-start
-    part-count-end
-    count-requires
-    add-done
-    sub-turns
-    loop-less
-    loop-again
-    returns-3)
+    Inv-loop μ-loop part-requires loop-holds returns sub-write part-write-start part-write-end write-requires try-again-requires fail-requires
+    returns-2 sub-count part-count-start part-count-end count-requires add-done sub-turns loop-less loop-again returns-3)

@@ -58,15 +58,4 @@ pub keep-tail-spec : {M : Type 1} → statement M
 keep-tail-spec =
     tie.close
     (tie.spec
-    Inv-loop
-    μ-loop
-    tail-len-requires
-    loop-holds
-    add-buf
-    slice-read-buf
-    slice-write-buf
-    add-i
-    loop-less
-    loop-again
-    same-length
-    returns)
+    Inv-loop μ-loop tail-len-requires loop-holds add-buf slice-read-buf slice-write-buf add-i loop-less loop-again same-length returns)

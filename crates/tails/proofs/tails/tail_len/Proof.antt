@@ -5,14 +5,5 @@ use borrow.Author.Needs.{needs}
 use Rattle.tails.proofs.tails.tail_len.Statement.{statement}
 use Rattle.tails.proofs.tails.tail_len.Tie as tie
 
-less-requires : tie.Need-less-requires
-less-requires c κs = search needs
-
-part-requires : tie.Need-part-requires
-part-requires c κs = search needs
-
-returns : tie.Need-returns
-returns c = rw (← (c .before .less .ensures)) (ap length (c .part .ensures))
-
 pub tail-len-spec : {M : Type 1} → statement M
-tail-len-spec = tie.close (tie.spec less-requires part-requires returns)
+tail-len-spec = tie.close (tie.spec (λ c κs. search needs) (λ c κs. search needs) (λ c. rw (← (c .before .less .ensures)) (ap length (c .part .ensures))))

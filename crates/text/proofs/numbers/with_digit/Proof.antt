@@ -6,24 +6,6 @@ use borrow.Author.Needs.{needs}
 use Rattle.text.proofs.numbers.with_digit.Statement.{statement}
 use Rattle.text.proofs.numbers.with_digit.Tie as tie
 
-wrapping-add-u64-requires : tie.Need-wrapping-add-u64-requires
-wrapping-add-u64-requires c κs = search needs
-
-wrapping-add-u64-requires-2 : tie.Need-wrapping-add-u64-requires-2
-wrapping-add-u64-requires-2 c κs = search needs
-
-wrapping-add-u64-requires-3 : tie.Need-wrapping-add-u64-requires-3
-wrapping-add-u64-requires-3 c κs = search needs
-
-wrapping-add-u64-requires-4 : tie.Need-wrapping-add-u64-requires-4
-wrapping-add-u64-requires-4 c κs = search needs
-
-digit-value-requires : tie.Need-digit-value-requires
-digit-value-requires c κs = search needs
-
-wrapping-add-u64-requires-5 : tie.Need-wrapping-add-u64-requires-5
-wrapping-add-u64-requires-5 c κs = search needs
-
 returns : tie.Need-returns
 returns c =
     let d = c .before .digit-value in
@@ -35,10 +17,4 @@ pub with-digit-spec : {M : Type 1} → statement M
 with-digit-spec =
     tie.close
     (tie.spec
-    wrapping-add-u64-requires
-    wrapping-add-u64-requires-2
-    wrapping-add-u64-requires-3
-    wrapping-add-u64-requires-4
-    digit-value-requires
-    wrapping-add-u64-requires-5
-    returns)
+    (λ c κs. search needs) (λ c κs. search needs) (λ c κs. search needs) (λ c κs. search needs) (λ c κs. search needs) (λ c κs. search needs) returns)

@@ -51,13 +51,4 @@ pub put-each-spec : {M : Type 1} → statement M
 put-each-spec =
     tie.close
     (tie.spec
-    Inv-loop
-    μ-loop
-    loop-holds
-    byte-at-requires
-    put-byte-requires
-    add-i
-    loop-less
-    loop-again
-    same-length
-    returns)
+    Inv-loop μ-loop loop-holds byte-at-requires put-byte-requires add-i loop-less loop-again same-length returns)

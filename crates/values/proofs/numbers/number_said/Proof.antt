@@ -52,12 +52,4 @@ pub number-said-spec : {M : Type 1} → statement M
 number-said-spec =
     tie.close
     (tie.spec
-    Inv-loop
-    μ-loop
-    loop-holds
-    shared-slice-read-with-digit
-    with-digit-requires
-    add-i
-    loop-less
-    loop-again
-    returns)
+    Inv-loop μ-loop loop-holds shared-slice-read-with-digit with-digit-requires add-i loop-less loop-again returns)

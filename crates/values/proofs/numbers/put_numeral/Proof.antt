@@ -54,14 +54,4 @@ pub put-numeral-spec : {M : Type 1} → statement M
 put-numeral-spec =
     tie.close
     (tie.spec
-    Inv-loop
-    μ-loop
-    loop-holds
-    sub-i
-    low-digit-requires
-    slice-write-part
-    quotient-requires
-    loop-less
-    loop-again
-    same-length
-    returns)
+    Inv-loop μ-loop loop-holds sub-i low-digit-requires slice-write-part quotient-requires loop-less loop-again same-length returns)

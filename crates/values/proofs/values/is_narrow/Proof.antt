@@ -9,9 +9,6 @@ returns : tie.Need-returns
 unfolding narrow
 returns c = rw (lt-leb _ _ (c .if1 .taken))
 
-is-decimal-requires : tie.Need-is-decimal-requires
-is-decimal-requires c κs = search needs
-
 returns-2 : tie.Need-returns-2
 unfolding narrow
 returns-2 c = rw (← (c .before .is-decimal .ensures), le-leb _ _ (c .before .before .if1 .left), c .if2 .taken)
@@ -21,4 +18,4 @@ unfolding narrow
 returns-3 c = rw (← (c .before .is-decimal .ensures), le-leb _ _ (c .before .before .if1 .left), c .if2 .left)
 
 pub is-narrow-spec : {M : Type 1} → statement M
-is-narrow-spec = tie.close (tie.spec returns is-decimal-requires returns-2 returns-3)
+is-narrow-spec = tie.close (tie.spec returns (λ c κs. search needs) returns-2 returns-3)

@@ -8,26 +8,11 @@ use borrow.Author.Needs.{needs}
 use Rattle.values.proofs.values.length_of.Statement.{statement}
 use Rattle.values.proofs.values.length_of.Tie as tie
 
-type-of-requires : tie.Need-type-of-requires
-type-of-requires c κs = search needs
-
-letter-of-requires : tie.Need-letter-of-requires
-letter-of-requires c κs = search needs
-
-form-of-requires : tie.Need-form-of-requires
-form-of-requires c κs = search needs
-
 returns : tie.Need-returns
 returns c =
     let f = c .before .before in let a = f .before .before .before .args in
     let row = record-looked (a .line) (a .rec) _ _ (f .form-of .result) (f .before .before .type-of .ensures) (f .before .letter-of .ensures) (f .form-of .ensures) in
     length-none (a .line) (a .rec) (f .form-of .result) row (not-true _ (c .if1 .taken))
-
-width-of-requires : tie.Need-width-of-requires
-width-of-requires c κs = search needs
-
-add-result : tie.Need-add-result
-add-result c = omega (arith, c .width-of .ensures .1)
 
 returns-2 : tie.Need-returns-2
 returns-2 c =
@@ -40,10 +25,5 @@ pub length-of-spec : {M : Type 1} → statement M
 length-of-spec =
     tie.close
     (tie.spec
-    type-of-requires
-    letter-of-requires
-    form-of-requires
-    returns
-    width-of-requires
-    add-result
+    (λ c κs. search needs) (λ c κs. search needs) (λ c κs. search needs) returns (λ c κs. search needs) (λ c. omega (arith, c .width-of .ensures .1))
     returns-2)

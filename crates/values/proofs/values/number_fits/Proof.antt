@@ -5,18 +5,9 @@ use borrow.Author.Needs.{needs}
 use Rattle.values.proofs.values.number_fits.Statement.{statement}
 use Rattle.values.proofs.values.number_fits.Tie as tie
 
-is-ruled-requires : tie.Need-is-ruled-requires
-is-ruled-requires c κs = search needs
-
 returns : tie.Need-returns
 unfolding numberFits
 returns c = rw (← (c .before .is-ruled .ensures), not-true (c .before .is-ruled .result) (c .if1 .taken))
-
-is-narrow-requires : tie.Need-is-narrow-requires
-is-narrow-requires c κs = search needs
-
-permits-number-requires : tie.Need-permits-number-requires
-permits-number-requires c κs = search needs
 
 returns-2 : tie.Need-returns-2
 unfolding numberFits
@@ -34,9 +25,4 @@ pub number-fits-spec : {M : Type 1} → statement M
 number-fits-spec =
     tie.close
     (tie.spec
-    is-ruled-requires
-    returns
-    is-narrow-requires
-    permits-number-requires
-    returns-2
-    returns-3)
+    (λ c κs. search needs) returns (λ c κs. search needs) (λ c κs. search needs) returns-2 returns-3)

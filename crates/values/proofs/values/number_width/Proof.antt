@@ -5,15 +5,9 @@ use borrow.Author.Needs.{needs}
 use Rattle.values.proofs.values.number_width.Statement.{statement}
 use Rattle.values.proofs.values.number_width.Tie as tie
 
-lead-of-requires : tie.Need-lead-of-requires
-lead-of-requires c κs = search needs
-
 returns : tie.Need-returns
 unfolding numberWidth
 returns c = rw (← (c .before .lead-of .ensures), eq-eqb _ _ (c .if1 .taken))
-
-sub-result : tie.Need-sub-result
-sub-result c = search needs
 
 returns-2 : tie.Need-returns-2
 unfolding numberWidth
@@ -24,4 +18,4 @@ unfolding numberWidth
 returns-3 c = rw (← (c .before .before .lead-of .ensures), ne-eqb _ _ (c .before .if1 .left))
 
 pub number-width-spec : {M : Type 1} → statement M
-number-width-spec = tie.close (tie.spec lead-of-requires returns sub-result returns-2 returns-3)
+number-width-spec = tie.close (tie.spec (λ c κs. search needs) returns (λ c. search needs) returns-2 returns-3)

@@ -55,13 +55,4 @@ pub permits-bytes-spec : {M : Type 1} → statement M
 permits-bytes-spec =
     tie.close
     (tie.spec
-    Inv-loop
-    μ-loop
-    loop-holds
-    shared-slice-read-permits-byte
-    permits-byte-requires
-    returns
-    add-at
-    loop-less
-    loop-again
-    returns-2)
+    Inv-loop μ-loop loop-holds shared-slice-read-permits-byte permits-byte-requires returns add-at loop-less loop-again returns-2)

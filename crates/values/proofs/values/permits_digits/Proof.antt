@@ -66,16 +66,5 @@ pub permits-digits-spec : {M : Type 1} → statement M
 permits-digits-spec =
     tie.close
     (tie.spec
-    Inv-loop
-    μ-loop
-    is-decimal-requires
-    loop-holds
-    sub-i
-    add-permits-byte
-    low-digit-requires
-    permits-byte-requires
-    returns
-    quotient-requires
-    loop-less
-    loop-again
-    returns-2)
+    Inv-loop μ-loop is-decimal-requires loop-holds sub-i add-permits-byte low-digit-requires permits-byte-requires returns quotient-requires loop-less
+    loop-again returns-2)

@@ -6,26 +6,11 @@ use borrow.Author.Needs.{needs}
 use Rattle.values.proofs.values.permits_record.Statement.{statement}
 use Rattle.values.proofs.values.permits_record.Tie as tie
 
-type-of-requires : tie.Need-type-of-requires
-type-of-requires c κs = search needs
-
-letter-of-requires : tie.Need-letter-of-requires
-letter-of-requires c κs = search needs
-
-form-of-requires : tie.Need-form-of-requires
-form-of-requires c κs = search needs
-
 returns : tie.Need-returns
 returns c =
     let f = c .before .before in let a = f .before .before .before .args in
     let row = record-looked (a .line) (a .rec) _ _ (f .form-of .result) (f .before .before .type-of .ensures) (f .before .letter-of .ensures) (f .form-of .ensures) in
     record-none (a .line) (a .rec) (f .form-of .result) row (not-true _ (c .if1 .taken))
-
-values-of-requires : tie.Need-values-of-requires
-values-of-requires c κs = search needs
-
-permits-values-requires : tie.Need-permits-values-requires
-permits-values-requires c κs = search needs
 
 returns-2 : tie.Need-returns-2
 returns-2 c =
@@ -39,10 +24,4 @@ pub permits-record-spec : {M : Type 1} → statement M
 permits-record-spec =
     tie.close
     (tie.spec
-    type-of-requires
-    letter-of-requires
-    form-of-requires
-    returns
-    values-of-requires
-    permits-values-requires
-    returns-2)
+    (λ c κs. search needs) (λ c κs. search needs) (λ c κs. search needs) returns (λ c κs. search needs) (λ c κs. search needs) returns-2)

@@ -6,12 +6,6 @@ use borrow.Author.Needs.{needs}
 use Rattle.values.proofs.values.permits_spelt.Statement.{statement}
 use Rattle.values.proofs.values.permits_spelt.Tie as tie
 
-lead-of-requires : tie.Need-lead-of-requires
-lead-of-requires c κs = search needs
-
-permits-digits-requires : tie.Need-permits-digits-requires
-permits-digits-requires c κs = search needs
-
 returns : tie.Need-returns
 returns c =
     let d = c .before .before in let a = d .before .args in
@@ -22,20 +16,11 @@ returns-2 c =
     let d = c .before .before in let a = d .before .args in
     spelt-none (a .line) (a .kind) (a .letter) _ (a .n) (d .lead-of .ensures) (c .before .if1 .left) (a .w) (c .if2 .taken)
 
-permits-byte-requires : tie.Need-permits-byte-requires
-permits-byte-requires c κs = search needs
-
 returns-3 : tie.Need-returns-3
 returns-3 c =
     let d = c .before .before .before .before in let a = d .before .args in
     let g = sym (c .before .permits-byte .ensures) ∙ not-true _ (c .if3 .taken) in
     spelt-bad (a .line) (a .kind) (a .letter) _ (a .n) (d .lead-of .ensures) (c .before .before .before .if1 .left) (a .w) (c .before .before .if2 .left) g
-
-sub-permits-digits : tie.Need-sub-permits-digits
-sub-permits-digits c = search needs
-
-permits-digits-requires-2 : tie.Need-permits-digits-requires-2
-permits-digits-requires-2 c κs = search needs
 
 returns-4 : tie.Need-returns-4
 returns-4 c =
@@ -47,12 +32,5 @@ pub permits-spelt-spec : {M : Type 1} → statement M
 permits-spelt-spec =
     tie.close
     (tie.spec
-    lead-of-requires
-    permits-digits-requires
-    returns
-    returns-2
-    permits-byte-requires
-    returns-3
-    sub-permits-digits
-    permits-digits-requires-2
+    (λ c κs. search needs) (λ c κs. search needs) returns returns-2 (λ c κs. search needs) returns-3 (λ c. search needs) (λ c κs. search needs)
     returns-4)

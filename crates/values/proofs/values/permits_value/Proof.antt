@@ -6,21 +6,9 @@ use borrow.Author.Needs.{needs}
 use Rattle.values.proofs.values.permits_value.Statement.{statement}
 use Rattle.values.proofs.values.permits_value.Tie as tie
 
-is-decimal-requires : tie.Need-is-decimal-requires
-is-decimal-requires c κs = search needs
-
-number-width-requires : tie.Need-number-width-requires
-number-width-requires c κs = search needs
-
-left-of-requires : tie.Need-left-of-requires
-left-of-requires c κs = search needs
-
 returns : tie.Need-returns
 unfolding permitsValue
 returns c = rw (← (c .before .before .before .is-decimal .ensures), ← (c .before .before .number-width .ensures), ← (c .before .left-of .ensures), ne-eqb _ _ (c .if1 .taken))
-
-permits-spelt-requires : tie.Need-permits-spelt-requires
-permits-spelt-requires c κs = search needs
 
 returns-2 : tie.Need-returns-2
 unfolding permitsValue
@@ -34,9 +22,6 @@ returns-2 c =
       ← (s .ensures),
       not-true (s .result) (c .if2 .taken),
     )
-
-number-fits-requires : tie.Need-number-fits-requires
-number-fits-requires c κs = search needs
 
 returns-3 : tie.Need-returns-3
 unfolding permitsValue
@@ -55,11 +40,4 @@ pub permits-value-spec : {M : Type 1} → statement M
 permits-value-spec =
     tie.close
     (tie.spec
-    is-decimal-requires
-    number-width-requires
-    left-of-requires
-    returns
-    permits-spelt-requires
-    returns-2
-    number-fits-requires
-    returns-3)
+    (λ c κs. search needs) (λ c κs. search needs) (λ c κs. search needs) returns (λ c κs. search needs) returns-2 (λ c κs. search needs) returns-3)

@@ -80,17 +80,5 @@ pub permits-values-spec : {M : Type 1} → statement M
 permits-values-spec =
     tie.close
     (tie.spec
-    Inv-loop
-    μ-loop
-    count-of-requires
-    loop-holds
-    array-read-permits-value
-    array-read-permits-value-2
-    mul-permits-value
-    array-read-permits-value-3
-    permits-value-requires
-    returns
-    add-j
-    loop-less
-    loop-again
-    returns-2)
+    Inv-loop μ-loop count-of-requires loop-holds array-read-permits-value array-read-permits-value-2 mul-permits-value array-read-permits-value-3
+    permits-value-requires returns add-j loop-less loop-again returns-2)

@@ -12,24 +12,6 @@ use Rattle.values.proofs.values.put_packet.Tie as tie
 returns : tie.Need-returns
 returns c = packet-none (now (c .before .before .args .part)) (c .before .before .args .letter) (c .before .before .args .n) (c .if1 .taken)
 
-slice-write-part : tie.Need-slice-write-part
-slice-write-part c = search needs
-
-sub-put-value : tie.Need-sub-put-value
-sub-put-value c = simp length-set (omega arith)
-
-part-put-value-start : tie.Need-part-put-value-start
-part-put-value-start c = simp length-set (omega arith)
-
-part-put-value-end : tie.Need-part-put-value-end
-part-put-value-end c = search needs
-
-put-value-requires : tie.Need-put-value-requires
-put-value-requires c κs = search needs
-
-same-length : tie.Need-same-length
-same-length c = c .before .part .given .1 ∙ simp length-set
-
 returns-2 : tie.Need-returns-2
 returns-2 c =
     let a = c .before .before .before .before .before .before .args in
@@ -40,11 +22,5 @@ pub put-packet-spec : {M : Type 1} → statement M
 put-packet-spec =
     tie.close
     (tie.spec
-    returns
-    slice-write-part
-    sub-put-value
-    part-put-value-start
-    part-put-value-end
-    put-value-requires
-    same-length
-    returns-2)
+    returns (λ c. search needs) (λ c. simp length-set (omega arith)) (λ c. simp length-set (omega arith)) (λ c. search needs) (λ c κs. search needs)
+    (λ c. c .before .part .given .1 ∙ simp length-set) returns-2)

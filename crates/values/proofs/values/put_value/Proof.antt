@@ -9,18 +9,6 @@ use borrow.Author.Needs.{needs}
 use Rattle.values.proofs.values.put_value.Statement.{statement}
 use Rattle.values.proofs.values.put_value.Tie as tie
 
-lead-of-requires : tie.Need-lead-of-requires
-lead-of-requires c κs = search needs
-
-is-decimal-requires : tie.Need-is-decimal-requires
-is-decimal-requires c κs = search needs
-
-put-numeral-requires : tie.Need-put-numeral-requires
-put-numeral-requires c κs = search needs
-
-same-length : tie.Need-same-length
-same-length c = c .before .before .put-numeral .kept .0
-
 returns : tie.Need-returns
 returns c =
     let b = c .before .before .before .before .before in let a = b .before .before .before .args in
@@ -31,24 +19,6 @@ returns-2 : tie.Need-returns-2
 returns-2 c =
     let b = c .before .before in let a = b .before .before .before .args in
     text-none (a .letter) _ _ (a .n) (b .before .lead-of .ensures) (b .is-decimal .ensures) (now (a .part)) (c .before .if1 .left) (c .if2 .taken)
-
-slice-write-part : tie.Need-slice-write-part
-slice-write-part c = search needs
-
-sub-put-numeral : tie.Need-sub-put-numeral
-sub-put-numeral c = simp length-set (omega arith)
-
-part-put-numeral-start : tie.Need-part-put-numeral-start
-part-put-numeral-start c = simp length-set (omega arith)
-
-part-put-numeral-end : tie.Need-part-put-numeral-end
-part-put-numeral-end c = search needs
-
-put-numeral-requires-2 : tie.Need-put-numeral-requires-2
-put-numeral-requires-2 c κs = search needs
-
-same-length-2 : tie.Need-same-length-2
-same-length-2 c = c .before .part2 .given .1 ∙ simp length-set
 
 returns-3 : tie.Need-returns-3
 returns-3 c =
@@ -62,16 +32,6 @@ pub put-value-spec : {M : Type 1} → statement M
 put-value-spec =
     tie.close
     (tie.spec
-    lead-of-requires
-    is-decimal-requires
-    put-numeral-requires
-    same-length
-    returns
-    returns-2
-    slice-write-part
-    sub-put-numeral
-    part-put-numeral-start
-    part-put-numeral-end
-    put-numeral-requires-2
-    same-length-2
-    returns-3)
+    (λ c κs. search needs) (λ c κs. search needs) (λ c κs. search needs) (λ c. c .before .before .put-numeral .kept .0) returns returns-2
+    (λ c. search needs) (λ c. simp length-set (omega arith)) (λ c. simp length-set (omega arith)) (λ c. search needs) (λ c κs. search needs)
+    (λ c. c .before .part2 .given .1 ∙ simp length-set) returns-3)

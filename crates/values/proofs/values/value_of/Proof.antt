@@ -14,18 +14,9 @@ use borrow.Author.Needs.{needs}
 use Rattle.values.proofs.values.value_of.Statement.{statement}
 use Rattle.values.proofs.values.value_of.Tie as tie
 
-is-narrow-requires : tie.Need-is-narrow-requires
-is-narrow-requires c κs = search needs
-
 returns : tie.Need-returns
 unfolding valueOf
 returns c = rw (← (c .before .is-narrow .ensures), not-true (c .before .is-narrow .result) (c .if1 .taken))
-
-lead-of-requires : tie.Need-lead-of-requires
-lead-of-requires c κs = search needs
-
-is-decimal-requires : tie.Need-is-decimal-requires
-is-decimal-requires c κs = search needs
 
 number-said-requires : tie.Need-number-said-requires
 number-said-requires c κs =
@@ -39,12 +30,6 @@ returns-2 c =
     let b = c .before .before .before .before in let a = b .before .before .before .args in
     let t : narrow (a .letter) (length (now (a .text))) ≡ true = sym (b .before .is-narrow .ensures) ∙ not-false _ (b .if1 .left) in
     c .number-said .ensures ∙ rw (t, ← (c .before .before .before .lead-of .ensures), eq-eqb _ _ (c .before .before .if2 .taken), c .before .is-decimal .ensures)
-
-is-decimal-requires-2 : tie.Need-is-decimal-requires-2
-is-decimal-requires-2 c κs = search needs
-
-part-requires : tie.Need-part-requires
-part-requires c κs = search needs
 
 number-said-requires-2 : tie.Need-number-said-requires-2
 number-said-requires-2 c κs =
@@ -66,13 +51,5 @@ pub value-of-spec : {M : Type 1} → statement M
 value-of-spec =
     tie.close
     (tie.spec
-    is-narrow-requires
-    returns
-    lead-of-requires
-    is-decimal-requires
-    number-said-requires
-    returns-2
-    is-decimal-requires-2
-    part-requires
-    number-said-requires-2
-    returns-3)
+    (λ c κs. search needs) returns (λ c κs. search needs) (λ c κs. search needs) number-said-requires returns-2 (λ c κs. search needs)
+    (λ c κs. search needs) number-said-requires-2 returns-3)

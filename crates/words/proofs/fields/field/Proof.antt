@@ -7,18 +7,6 @@ use borrow.Author.Needs.{needs}
 use Rattle.words.proofs.fields.field.Statement.{statement}
 use Rattle.words.proofs.fields.field.Tie as tie
 
-start-of-requires : tie.Need-start-of-requires
-start-of-requires c κs = search needs
-
-end-from-requires : tie.Need-end-from-requires
-end-from-requires c κs = search needs
-
-less-requires : tie.Need-less-requires
-less-requires c κs = search needs
-
-part-requires : tie.Need-part-requires
-part-requires c κs = search needs
-
 returns : tie.Need-returns
 returns c =
     let a = c .before .before .before .before .before .args in
@@ -28,4 +16,4 @@ returns c =
 
 pub field-spec : {M : Type 1} → statement M
 field-spec =
-    tie.close (tie.spec start-of-requires end-from-requires less-requires part-requires returns)
+    tie.close (tie.spec (λ c κs. search needs) (λ c κs. search needs) (λ c κs. search needs) (λ c κs. search needs) returns)

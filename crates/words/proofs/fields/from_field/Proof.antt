@@ -5,14 +5,8 @@ use borrow.Author.Needs.{needs}
 use Rattle.words.proofs.fields.from_field.Statement.{statement}
 use Rattle.words.proofs.fields.from_field.Tie as tie
 
-start-of-requires : tie.Need-start-of-requires
-start-of-requires c κs = search needs
-
-part-requires : tie.Need-part-requires
-part-requires c κs = search needs
-
 returns : tie.Need-returns
 returns c = c .part .ensures ∙ whole-rest (c .before .before .before .args .s .now) _ (c .before .start-of .result) (c .before .start-of .ensures)
 
 pub from-field-spec : {M : Type 1} → statement M
-from-field-spec = tie.close (tie.spec start-of-requires part-requires returns)
+from-field-spec = tie.close (tie.spec (λ c κs. search needs) (λ c κs. search needs) returns)

@@ -53,14 +53,4 @@ pub same-spec : {M : Type 1} → statement M
 same-spec =
     tie.close
     (tie.spec
-    Inv-loop
-    μ-loop
-    returns
-    loop-holds
-    byte-at-requires
-    byte-at-requires-2
-    still-requires
-    add-i
-    loop-less
-    loop-again
-    returns-2)
+    Inv-loop μ-loop returns loop-holds byte-at-requires byte-at-requires-2 still-requires add-i loop-less loop-again returns-2)

@@ -51,13 +51,4 @@ pub word-place-spec : {M : Type 1} → statement M
 word-place-spec =
     tie.close
     (tie.spec
-    Inv-loop
-    μ-loop
-    loop-holds
-    word-requires
-    same-requires
-    returns
-    add-k
-    loop-less
-    loop-again
-    returns-2)
+    Inv-loop μ-loop loop-holds word-requires same-requires returns add-k loop-less loop-again returns-2)

@@ -5,24 +5,9 @@ use borrow.Author.Needs.{needs}
 use Rattle.writing.proofs.sending.send.Statement.{statement}
 use Rattle.writing.proofs.sending.send.Tie as tie
 
-write-requires : tie.Need-write-requires
-write-requires c κs = search needs
-
-enum-known-writing : tie.Need-enum-known-writing
-enum-known-writing c = search needs
-
-enum-told : tie.Need-enum-told
-enum-told c = search needs
-
-same-length : tie.Need-same-length
-same-length c = search needs
-
 returns : tie.Need-returns
 unfolding sendOf
 returns c = put _ _ _ (c .before .before .before .before .before .write .ensures) _ (c .before .writing .given .1)
-
-same-length-2 : tie.Need-same-length-2
-same-length-2 c = search needs
 
 returns-2 : tie.Need-returns-2
 unfolding sendOf
@@ -32,10 +17,4 @@ pub send-spec : {M : Type 1} → statement M
 send-spec =
     tie.close
     (tie.spec
-    write-requires
-    enum-known-writing
-    enum-told
-    same-length
-    returns
-    same-length-2
-    returns-2)
+    (λ c κs. search needs) (λ c. search needs) (λ c. search needs) (λ c. search needs) returns (λ c. search needs) returns-2)

@@ -131,23 +131,6 @@ pub put-packets-spec : {M : Type 1} → statement M
 put-packets-spec =
     tie.close
     (tie.spec
-    Inv-loop
-    μ-loop
-    count-of-requires
-    loop-holds
-    array-read-wide
-    wide-requires
-    add-end
-    add-end-2
-    sub-put-packet
-    part-put-packet-start
-    part-put-packet-end
-    array-read-put-packet
-    mul-put-packet
-    array-read-put-packet-2
-    put-packet-requires
-    add-j
-    loop-less
-    loop-again
-    same-length
+    Inv-loop μ-loop count-of-requires loop-holds array-read-wide wide-requires add-end add-end-2 sub-put-packet part-put-packet-start
+    part-put-packet-end array-read-put-packet mul-put-packet array-read-put-packet-2 put-packet-requires add-j loop-less loop-again same-length
     returns)

@@ -9,24 +9,6 @@ use borrow.Author.Needs.{needs}
 use Rattle.writing.proofs.writing.put_tail.Statement.{statement}
 use Rattle.writing.proofs.writing.put_tail.Tie as tie
 
-hex-requires : tie.Need-hex-requires
-hex-requires c κs = search needs
-
-slice-write-part : tie.Need-slice-write-part
-slice-write-part c = search needs
-
-hex-requires-2 : tie.Need-hex-requires-2
-hex-requires-2 c κs = search needs
-
-slice-write-part-2 : tie.Need-slice-write-part-2
-slice-write-part-2 c = search needs
-
-slice-write-part-3 : tie.Need-slice-write-part-3
-slice-write-part-3 c = search needs
-
-same-length : tie.Need-same-length
-same-length c = search needs
-
 returns : tie.Need-returns
 returns c =
     let a = c .before .before .before .args in
@@ -37,10 +19,4 @@ pub put-tail-spec : {M : Type 1} → statement M
 put-tail-spec =
     tie.close
     (tie.spec
-    hex-requires
-    slice-write-part
-    hex-requires-2
-    slice-write-part-2
-    slice-write-part-3
-    same-length
-    returns)
+    (λ c κs. search needs) (λ c. search needs) (λ c κs. search needs) (λ c. search needs) (λ c. search needs) (λ c. search needs) returns)

@@ -14,65 +14,8 @@ use borrow.Author.Needs.{needs}
 use Rattle.writing.proofs.writing.put_telegram.Statement.{statement}
 use Rattle.writing.proofs.writing.put_telegram.Tie as tie
 
-width-of-requires : tie.Need-width-of-requires
-width-of-requires c κs = search needs
-
-add-n : tie.Need-add-n
-add-n c = search needs
-
-sub-end : tie.Need-sub-end
-sub-end c = search needs
-
-sub-put-head : tie.Need-sub-put-head
-sub-put-head c = search needs
-
-part-put-head-start : tie.Need-part-put-head-start
-part-put-head-start c = search needs
-
-part-put-head-end : tie.Need-part-put-head-end
-part-put-head-end c = search needs
-
-put-head-requires : tie.Need-put-head-requires
-put-head-requires c κs = search needs
-
-sub-put-packets : tie.Need-sub-put-packets
-sub-put-packets c = search needs
-
-part-put-packets-start : tie.Need-part-put-packets-start
-part-put-packets-start c = search needs
-
-part-put-packets-end : tie.Need-part-put-packets-end
-part-put-packets-end c = search needs
-
 put-packets-requires : tie.Need-put-packets-requires
 put-packets-requires c κs = omega (arith, c .put-packets-arg .given .2, c .before .before .before .before .before .width-of .ensures .0)
-
-sub-checksum : tie.Need-sub-checksum
-sub-checksum c = search needs
-
-part-checksum-start : tie.Need-part-checksum-start
-part-checksum-start c = search needs
-
-part-checksum-end : tie.Need-part-checksum-end
-part-checksum-end c = search needs
-
-checksum-requires : tie.Need-checksum-requires
-checksum-requires c κs = search needs
-
-sub-put-tail : tie.Need-sub-put-tail
-sub-put-tail c = search needs
-
-part-put-tail-start : tie.Need-part-put-tail-start
-part-put-tail-start c = search needs
-
-part-put-tail-end : tie.Need-part-put-tail-end
-part-put-tail-end c = search needs
-
-put-tail-requires : tie.Need-put-tail-requires
-put-tail-requires c κs = search needs
-
-same-length : tie.Need-same-length
-same-length c = search needs
 
 returns : tie.Need-returns
 returns c =
@@ -99,24 +42,6 @@ pub put-telegram-spec : {M : Type 1} → statement M
 put-telegram-spec =
     tie.close
     (tie.spec
-    width-of-requires
-    add-n
-    sub-end
-    sub-put-head
-    part-put-head-start
-    part-put-head-end
-    put-head-requires
-    sub-put-packets
-    part-put-packets-start
-    part-put-packets-end
-    put-packets-requires
-    sub-checksum
-    part-checksum-start
-    part-checksum-end
-    checksum-requires
-    sub-put-tail
-    part-put-tail-start
-    part-put-tail-end
-    put-tail-requires
-    same-length
-    returns)
+    (λ c κs. search needs) (λ c. search needs) (λ c. search needs) (λ c. search needs) (λ c. search needs) (λ c. search needs) (λ c κs. search needs)
+    (λ c. search needs) (λ c. search needs) (λ c. search needs) put-packets-requires (λ c. search needs) (λ c. search needs) (λ c. search needs)
+    (λ c κs. search needs) (λ c. search needs) (λ c. search needs) (λ c. search needs) (λ c κs. search needs) (λ c. search needs) returns)

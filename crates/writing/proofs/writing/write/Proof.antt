@@ -12,22 +12,10 @@ use borrow.Author.Needs.{needs}
 use Rattle.writing.proofs.writing.write.Statement.{statement}
 use Rattle.writing.proofs.writing.write.Tie as tie
 
-is-line-requires : tie.Need-is-line-requires
-is-line-requires c κs = search needs
-
 returns : tie.Need-returns
 returns c =
     let a = c .before .before .before .args in
     no-line (a .line) (a .rec) (a .number) (now (a .out)) (sym (c .before .is-line .ensures) ∙ not-true _ (c .if1 .taken))
-
-type-of-requires : tie.Need-type-of-requires
-type-of-requires c κs = search needs
-
-letter-of-requires : tie.Need-letter-of-requires
-letter-of-requires c κs = search needs
-
-form-of-requires : tie.Need-form-of-requires
-form-of-requires c κs = search needs
 
 returns-2 : tie.Need-returns-2
 returns-2 c =
@@ -36,12 +24,6 @@ returns-2 c =
     let lined = sym (i .before .is-line .ensures) ∙ not-false _ (i .if1 .left) in
     let row = record-looked (a .line) (a .rec) _ _ (f .form-of .result) (t .ensures) (f .before .letter-of .ensures) (f .form-of .ensures) in
     not-sent (a .line) (a .rec) (a .number) (now (a .out)) _ (f .form-of .result) lined (t .ensures) row (not-true (f .form-of .result .found) (c .if2 .taken))
-
-values-of-requires : tie.Need-values-of-requires
-values-of-requires c κs = search needs
-
-permits-values-requires : tie.Need-permits-values-requires
-permits-values-requires c κs = search needs
 
 returns-3 : tie.Need-returns-3
 returns-3 c =
@@ -65,12 +47,6 @@ returns-4 c =
     let same = sym (record-row (a .line) (a .rec) (f .form-of .result) row _ _ (t .ensures) (p .before .values-of .ensures) found) ∙ sym (p .permits-values .ensures) in
     no-number (a .line) (a .rec) (a .number) (now (a .out)) _ (f .form-of .result) lined (t .ensures) row found (same ∙ not-false _ (c .before .if3 .left)) (c .if4 .taken)
 
-width-of-requires : tie.Need-width-of-requires
-width-of-requires c κs = search needs
-
-add-n : tie.Need-add-n
-add-n c = search needs
-
 returns-5 : tie.Need-returns-5
 returns-5 c =
     let p = c .before .before .before .before in
@@ -82,12 +58,6 @@ returns-5 c =
     let same = sym (record-row (a .line) (a .rec) (f .form-of .result) row _ _ (t .ensures) (p .before .values-of .ensures) found) ∙ sym (p .permits-values .ensures) in
     no-room (a .line) (a .rec) (a .number) (now (a .out)) _ (f .form-of .result) lined (t .ensures) row found (same ∙ not-false _ (c .before .before .before .if3 .left)) (c .before .before .if4 .left)
     (omega (arith, c .before .width-of .ensures .0))
-
-put-telegram-requires : tie.Need-put-telegram-requires
-put-telegram-requires c κs = omega (arith, c .before .before .width-of .ensures .0)
-
-same-length : tie.Need-same-length
-same-length c = c .before .before .put-telegram .kept .0
 
 returns-6 : tie.Need-returns-6
 returns-6 c =
@@ -109,19 +79,6 @@ pub write-spec : {M : Type 1} → statement M
 write-spec =
     tie.close
     (tie.spec
-    is-line-requires
-    returns
-    type-of-requires
-    letter-of-requires
-    form-of-requires
-    returns-2
-    values-of-requires
-    permits-values-requires
-    returns-3
-    returns-4
-    width-of-requires
-    add-n
-    returns-5
-    put-telegram-requires
-    same-length
-    returns-6)
+    (λ c κs. search needs) returns (λ c κs. search needs) (λ c κs. search needs) (λ c κs. search needs) returns-2 (λ c κs. search needs)
+    (λ c κs. search needs) returns-3 returns-4 (λ c κs. search needs) (λ c. search needs) returns-5
+    (λ c κs. omega (arith, c .before .before .width-of .ensures .0)) (λ c. c .before .before .put-telegram .kept .0) returns-6)

@@ -7,22 +7,13 @@ use borrow.Author.Needs.{needs}
 use Rattle.desk.proofs.state.Desk.key_check.Statement.{statement}
 use Rattle.desk.proofs.state.Desk.key_check.Tie as tie
 
-in-ranges-requires : tie.Need-in-ranges-requires
-in-ranges-requires c κs = search needs
-
 returns : tie.Need-returns
 returns c = let a = c .before .before .args in key-state (a .self) (a .key) (sym (c .before .in-ranges .ensures) ∙ not-true _ (c .if1 .taken))
-
-line-of-requires : tie.Need-line-of-requires
-line-of-requires c κs = search needs
 
 returns-2 : tie.Need-returns-2
 returns-2 c = let a = c .before .before .before .before .before .args in
     let k = sym (ap (λ (r : Line). r .keyed) (c .before .before .line-of .ensures)) ∙ not-true _ (c .if2 .taken) in
     key-line (a .self) (a .key) (sym (c .before .before .before .before .in-ranges .ensures) ∙ not-false _ (c .before .before .before .if1 .left)) k
-
-is-key-requires : tie.Need-is-key-requires
-is-key-requires c κs = search needs
 
 returns-3 : tie.Need-returns-3
 returns-3 c =
@@ -46,10 +37,4 @@ pub key-check-spec : {M : Type 1} → statement M
 key-check-spec =
     tie.close
     (tie.spec
-    in-ranges-requires
-    returns
-    line-of-requires
-    returns-2
-    is-key-requires
-    returns-3
-    returns-4)
+    (λ c κs. search needs) returns (λ c κs. search needs) returns-2 (λ c κs. search needs) returns-3 returns-4)

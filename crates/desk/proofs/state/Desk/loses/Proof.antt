@@ -4,9 +4,6 @@ use borrow.Author.Needs.{needs}
 use Rattle.desk.proofs.state.Desk.loses.Statement.{statement}
 use Rattle.desk.proofs.state.Desk.loses.Tie as tie
 
-run-out-requires : tie.Need-run-out-requires
-run-out-requires c κs = search needs
-
 returns : tie.Need-returns
 unfolding losesLine
 returns c = rw (c .before .if1 .taken) (c .run-out .ensures)
@@ -16,4 +13,4 @@ unfolding losesLine
 returns-2 c = rw (c .if1 .left)
 
 pub loses-spec : {M : Type 1} → statement M
-loses-spec = tie.close (tie.spec run-out-requires returns returns-2)
+loses-spec = tie.close (tie.spec (λ c κs. search needs) returns returns-2)

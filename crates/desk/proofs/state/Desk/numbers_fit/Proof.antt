@@ -6,23 +6,14 @@ use borrow.Author.Needs.{needs}
 use Rattle.desk.proofs.state.Desk.numbers_fit.Statement.{statement}
 use Rattle.desk.proofs.state.Desk.numbers_fit.Tie as tie
 
-is-line-requires : tie.Need-is-line-requires
-is-line-requires c κs = search needs
-
 returns : tie.Need-returns
 returns c = bad-line (c .before .before .before .args .self) (sym (c .before .is-line .ensures) ∙ not-true _ (c .if1 .taken))
-
-in-range-requires : tie.Need-in-range-requires
-in-range-requires c κs = search needs
 
 returns-2 : tie.Need-returns-2
 returns-2 c = bad-number (c .before .before .before .before .before .args .self) (sym (c .before .in-range .ensures) ∙ not-true _ (c .if2 .taken))
 
 returns-3 : tie.Need-returns-3
 returns-3 c = bad-count (c .before .before .before .before .before .before .before .args .self) (c .if3 .taken)
-
-key-fits-requires : tie.Need-key-fits-requires
-key-fits-requires c κs = search needs
 
 returns-4 : tie.Need-returns-4
 returns-4 c =
@@ -39,10 +30,4 @@ pub numbers-fit-spec : {M : Type 1} → statement M
 numbers-fit-spec =
     tie.close
     (tie.spec
-    is-line-requires
-    returns
-    in-range-requires
-    returns-2
-    returns-3
-    key-fits-requires
-    returns-4)
+    (λ c κs. search needs) returns (λ c κs. search needs) returns-2 returns-3 (λ c κs. search needs) returns-4)

@@ -6,12 +6,6 @@ use borrow.Author.Needs.{needs}
 use Rattle.desk.proofs.state.Desk.queue.Statement.{statement}
 use Rattle.desk.proofs.state.Desk.queue.Tie as tie
 
-record-check-requires : tie.Need-record-check-requires
-record-check-requires c κs = search needs
-
-enum-known-check : tie.Need-enum-known-check
-enum-known-check c = search needs
-
 returns : tie.Need-returns
 returns c =
     let a = c .before .before .before .before .args in
@@ -27,9 +21,6 @@ returns-2 c =
     let record-check = c .before .before .before .before .record-check in
     queue-full (a .self) (a .rec) (sym (ap faultOf (c .before .before .enum-told .given .1)) ∙ record-check .ensures) (c .if1 .taken)
 
-with-queued-requires : tie.Need-with-queued-requires
-with-queued-requires c κs = search needs
-
 returns-3 : tie.Need-returns-3
 returns-3 c =
     let a = c .before .before .before .before .before .before .args in
@@ -41,10 +32,4 @@ pub queue-spec : {M : Type 1} → statement M
 queue-spec =
     tie.close
     (tie.spec
-    record-check-requires
-    enum-known-check
-    returns
-    enum-told
-    returns-2
-    with-queued-requires
-    returns-3)
+    (λ c κs. search needs) (λ c. search needs) returns enum-told returns-2 (λ c κs. search needs) returns-3)

@@ -6,17 +6,8 @@ use borrow.Author.Needs.{needs}
 use Rattle.desk.proofs.state.Desk.record_check.Statement.{statement}
 use Rattle.desk.proofs.state.Desk.record_check.Tie as tie
 
-in-ranges-requires : tie.Need-in-ranges-requires
-in-ranges-requires c κs = search needs
-
 returns : tie.Need-returns
 returns c = record-state (c .before .before .args .self) (c .before .before .args .rec) (sym (c .before .in-ranges .ensures) ∙ not-true _ (c .if1 .taken))
-
-type-of-requires : tie.Need-type-of-requires
-type-of-requires c κs = search needs
-
-data-type-requires : tie.Need-data-type-requires
-data-type-requires c κs = search needs
 
 returns-2 : tie.Need-returns-2
 returns-2 c =
@@ -25,9 +16,6 @@ returns-2 c =
     let if1 = c .before .before .before .if1 in
     record-type (a .self) (a .rec) (sym (in-ranges .ensures) ∙ not-false _ (if1 .left)) _ _ (c .before .before .type-of .ensures)
     (c .before .data-type .ensures) (c .if2 .taken)
-
-permits-record-requires : tie.Need-permits-record-requires
-permits-record-requires c κs = search needs
 
 returns-3 : tie.Need-returns-3
 returns-3 c =
@@ -53,11 +41,4 @@ pub record-check-spec : {M : Type 1} → statement M
 record-check-spec =
     tie.close
     (tie.spec
-    in-ranges-requires
-    returns
-    type-of-requires
-    data-type-requires
-    returns-2
-    permits-record-requires
-    returns-3
-    returns-4)
+    (λ c κs. search needs) returns (λ c κs. search needs) (λ c κs. search needs) returns-2 (λ c κs. search needs) returns-3 returns-4)

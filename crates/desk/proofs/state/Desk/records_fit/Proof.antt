@@ -6,20 +6,11 @@ use borrow.Author.Needs.{needs}
 use Rattle.desk.proofs.state.Desk.records_fit.Statement.{statement}
 use Rattle.desk.proofs.state.Desk.records_fit.Tie as tie
 
-kept-fits-requires : tie.Need-kept-fits-requires
-kept-fits-requires c κs = search needs
-
 returns : tie.Need-returns
 returns c = bad-length (c .before .before .before .args .self) (sym (c .before .kept-fits .ensures) ∙ not-true _ (c .if1 .taken))
 
-wanted-fits-requires : tie.Need-wanted-fits-requires
-wanted-fits-requires c κs = search needs
-
 returns-2 : tie.Need-returns-2
 returns-2 c = bad-wanted (c .before .before .before .before .before .args .self) (sym (c .before .wanted-fits .ensures) ∙ not-true _ (c .if2 .taken))
-
-queue-fits-requires : tie.Need-queue-fits-requires
-queue-fits-requires c κs = search needs
 
 returns-3 : tie.Need-returns-3
 returns-3 c =
@@ -34,9 +25,4 @@ pub records-fit-spec : {M : Type 1} → statement M
 records-fit-spec =
     tie.close
     (tie.spec
-    kept-fits-requires
-    returns
-    wanted-fits-requires
-    returns-2
-    queue-fits-requires
-    returns-3)
+    (λ c κs. search needs) returns (λ c κs. search needs) returns-2 (λ c κs. search needs) returns-3)

@@ -10,15 +10,6 @@ use borrow.Author.Needs.{needs}
 use Rattle.desk.proofs.state.Desk.start.Statement.{statement}
 use Rattle.desk.proofs.state.Desk.start.Tie as tie
 
-is-line-requires : tie.Need-is-line-requires
-is-line-requires c κs = search needs
-
-fresh-requires : tie.Need-fresh-requires
-fresh-requires c κs = search needs
-
-fresh-requires-2 : tie.Need-fresh-requires-2
-fresh-requires-2 c κs = search needs
-
 returns : tie.Need-returns
 unfolding startOf
 returns c = let h : isLine (c .before .before .before .args .line) ≡ true = sym (c .before .before .is-line .ensures) ∙ c .before .if1 .taken in
@@ -31,4 +22,4 @@ returns-2 c = let h : isLine (c .before .before .before .args .line) ≡ false =
 
 pub start-spec : {M : Type 1} → statement M
 start-spec =
-    tie.close (tie.spec is-line-requires fresh-requires fresh-requires-2 returns returns-2)
+    tie.close (tie.spec (λ c κs. search needs) (λ c κs. search needs) (λ c κs. search needs) returns returns-2)

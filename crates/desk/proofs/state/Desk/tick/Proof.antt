@@ -6,17 +6,8 @@ use borrow.Author.Needs.{needs}
 use Rattle.desk.proofs.state.Desk.tick.Statement.{statement}
 use Rattle.desk.proofs.state.Desk.tick.Tie as tie
 
-in-ranges-requires : tie.Need-in-ranges-requires
-in-ranges-requires c κs = search needs
-
 returns : tie.Need-returns
 returns c = tick-refused (c .before .before .args .self) (c .before .before .args .at) (sym (c .before .in-ranges .ensures) ∙ not-true _ (c .if1 .taken))
-
-loses-requires : tie.Need-loses-requires
-loses-requires c κs = search needs
-
-noted-requires : tie.Need-noted-requires
-noted-requires c κs = search needs
 
 returns-2 : tie.Need-returns-2
 returns-2 c =
@@ -25,9 +16,6 @@ returns-2 c =
     let if1 = c .before .before .before .if1 in
     tick-lost (a .self) (a .at) (sym (in-ranges .ensures) ∙ not-false _ (if1 .left)) (sym (c .before .before .loses .ensures) ∙ c .before .if2 .taken) _
     (c .noted .ensures)
-
-noted-requires-2 : tie.Need-noted-requires-2
-noted-requires-2 c κs = search needs
 
 returns-3 : tie.Need-returns-3
 returns-3 c =
@@ -41,10 +29,4 @@ pub tick-spec : {M : Type 1} → statement M
 tick-spec =
     tie.close
     (tie.spec
-    in-ranges-requires
-    returns
-    loses-requires
-    noted-requires
-    returns-2
-    noted-requires-2
-    returns-3)
+    (λ c κs. search needs) returns (λ c κs. search needs) (λ c κs. search needs) returns-2 (λ c κs. search needs) returns-3)

@@ -6,20 +6,11 @@ use borrow.Author.Needs.{needs}
 use Rattle.desk.proofs.state.Desk.turn_key.Statement.{statement}
 use Rattle.desk.proofs.state.Desk.turn_key.Tie as tie
 
-key-check-requires : tie.Need-key-check-requires
-key-check-requires c κs = search needs
-
-enum-known-check : tie.Need-enum-known-check
-enum-known-check c = search needs
-
 returns : tie.Need-returns
 returns c =
     let a = c .before .before .before .before .args in
     let key-check = c .before .before .before .key-check in
     key-refused (a .self) (a .key) _ (sym (ap faultOf (c .before .check .given .1)) ∙ key-check .ensures)
-
-enum-told : tie.Need-enum-told
-enum-told c = search needs
 
 returns-2 : tie.Need-returns-2
 returns-2 c =
@@ -30,4 +21,4 @@ returns-2 c =
 pub turn-key-spec : {M : Type 1} → statement M
 turn-key-spec =
     tie.close
-    (tie.spec key-check-requires enum-known-check returns enum-told returns-2)
+    (tie.spec (λ c κs. search needs) (λ c. search needs) returns (λ c. search needs) returns-2)

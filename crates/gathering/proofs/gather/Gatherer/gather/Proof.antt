@@ -10,18 +10,6 @@ returns : tie.Need-returns
 unfolding gatherOf
 returns c = search tests
 
-enum-known-item : tie.Need-enum-known-item
-enum-known-item c = search needs
-
-gather-byte-requires : tie.Need-gather-byte-requires
-gather-byte-requires c κs = search needs
-
-enum-told : tie.Need-enum-told
-enum-told c = search needs
-
-close-requires : tie.Need-close-requires
-close-requires c κs = search needs
-
 returns-2 : tie.Need-returns-2
 unfolding gatherOf
 returns-2 c = rw (lt-leb _ _ (c .before .before .before .before .if1 .left), c .before .before .item .given .1) (c .gather-byte .ensures)
@@ -33,4 +21,4 @@ returns-3 c = rw (lt-leb _ _ (c .before .before .before .if1 .left), c .before .
 pub gather-spec : {M : Type 1} → statement M
 gather-spec =
     tie.close
-    (tie.spec returns enum-known-item gather-byte-requires enum-told close-requires returns-2 returns-3)
+    (tie.spec returns (λ c. search needs) (λ c κs. search needs) (λ c. search needs) (λ c κs. search needs) returns-2 returns-3)

@@ -9,32 +9,17 @@ use borrow.Author.Needs.{needs}
 use Rattle.gathering.proofs.gather.Gatherer.gather_byte.Statement.{statement}
 use Rattle.gathering.proofs.gather.Gatherer.gather_byte.Tie as tie
 
-turn-of-requires : tie.Need-turn-of-requires
-turn-of-requires c κs = search needs
-
-enum-known-turn : tie.Need-enum-known-turn
-enum-known-turn c = search needs
-
 add-put : tie.Need-add-put
 add-put c = let h = joins-at _ _ _ (sym (c .before .before .before .turn-of .ensures) ∙ c .before .turn .given .1) in omega arith
 
 put-requires : tie.Need-put-requires
 put-requires c κs = let h = joins-at _ _ _ (sym (c .before .before .before .turn-of .ensures) ∙ c .before .turn .given .1) in omega arith
 
-enum-known-turn-2 : tie.Need-enum-known-turn-2
-enum-known-turn-2 c = search needs
-
 put-requires-2 : tie.Need-put-requires-2
 put-requires-2 c κs = let h = ends-at _ _ _ (sym (c .before .before .before .turn-of .ensures) ∙ c .before .turn2 .given .1) in omega arith
 
 add-t11 : tie.Need-add-t11
 add-t11 c = let h = ends-at _ _ _ (sym (c .before .before .before .before .turn-of .ensures) ∙ c .before .before .turn2 .given .1) in omega arith
-
-enum-told : tie.Need-enum-told
-enum-told c = search needs
-
-close-requires : tie.Need-close-requires
-close-requires c κs = search needs
 
 returns : tie.Need-returns
 returns c =
@@ -58,15 +43,5 @@ pub gather-byte-spec : {M : Type 1} → statement M
 gather-byte-spec =
     tie.close
     (tie.spec
-    turn-of-requires
-    enum-known-turn
-    add-put
-    put-requires
-    enum-known-turn-2
-    put-requires-2
-    add-t11
-    enum-told
-    close-requires
-    returns
-    returns-2
-    returns-3)
+    (λ c κs. search needs) (λ c. search needs) add-put put-requires (λ c. search needs) put-requires-2 add-t11 (λ c. search needs)
+    (λ c κs. search needs) returns returns-2 returns-3)

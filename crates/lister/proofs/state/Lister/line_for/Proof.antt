@@ -7,12 +7,6 @@ use borrow.Author.Needs.{needs}
 use Rattle.lister.proofs.state.Lister.line_for.Statement.{statement}
 use Rattle.lister.proofs.state.Lister.line_for.Tie as tie
 
-byte-at-requires : tie.Need-byte-at-requires
-byte-at-requires c κs = search needs
-
-line-named-requires : tie.Need-line-named-requires
-line-named-requires c κs = search needs
-
 returns : tie.Need-returns
 unfolding lineFor
 returns c = rw (eq-eqb (c .before .before .before .before .before .args .self .line) 0 (c .before .before .if1 .taken)) (c .line-named .ensures ∙ ap lineNamed (c .before .byte-at .ensures))
@@ -22,4 +16,4 @@ unfolding lineFor
 returns-2 c = rw (ne-eqb (c .before .before .before .args .self .line) 0 (c .if1 .left))
 
 pub line-for-spec : {M : Type 1} → statement M
-line-for-spec = tie.close (tie.spec byte-at-requires line-named-requires returns returns-2)
+line-for-spec = tie.close (tie.spec (λ c κs. search needs) (λ c κs. search needs) returns returns-2)

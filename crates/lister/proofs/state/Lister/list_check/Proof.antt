@@ -8,9 +8,6 @@ use borrow.Author.Needs.{needs}
 use Rattle.lister.proofs.state.Lister.list_check.Statement.{statement}
 use Rattle.lister.proofs.state.Lister.list_check.Tie as tie
 
-place-fits-requires : tie.Need-place-fits-requires
-place-fits-requires c κs = search needs
-
 returns : tie.Need-returns
 returns c =
     let a = c .before .before .args in
@@ -57,4 +54,4 @@ returns-6 c =
 pub list-check-spec : {M : Type 1} → statement M
 list-check-spec =
     tie.close
-    (tie.spec place-fits-requires returns returns-2 returns-3 returns-4 returns-5 returns-6)
+    (tie.spec (λ c κs. search needs) returns returns-2 returns-3 returns-4 returns-5 returns-6)

@@ -17,9 +17,6 @@ returns-2 : tie.Need-returns-2
 unfolding placeFits
 returns-2 c = let m = c .before .before .before .before .before .args .self in rw (eq-eqb (m .line) 0 (c .before .before .before .if1 .taken), eq-eqb (m .held) 0 (c .before .if2 .left))
 
-is-line-requires : tie.Need-is-line-requires
-is-line-requires c κs = search needs
-
 returns-3 : tie.Need-returns-3
 unfolding placeFits
 returns-3 c =
@@ -35,4 +32,4 @@ returns-4 c =
     rw (ne-eqb (m .line) 0 (c .before .before .before .if1 .left), h)
 
 pub place-fits-spec : {M : Type 1} → statement M
-place-fits-spec = tie.close (tie.spec returns returns-2 is-line-requires returns-3 returns-4)
+place-fits-spec = tie.close (tie.spec returns returns-2 (λ c κs. search needs) returns-3 returns-4)

@@ -7,12 +7,6 @@ use borrow.Author.Needs.{needs}
 use Rattle.lister.proofs.state.Lister.read_task.Statement.{statement}
 use Rattle.lister.proofs.state.Lister.read_task.Tie as tie
 
-line-for-requires : tie.Need-line-for-requires
-line-for-requires c κs = search needs
-
-line-task-requires : tie.Need-line-task-requires
-line-task-requires c κs = search needs
-
 returns : tie.Need-returns
 returns c =
     let a = c .before .before .before .before .args in
@@ -30,4 +24,4 @@ returns-3 c =
 
 pub read-task-spec : {M : Type 1} → statement M
 read-task-spec =
-    tie.close (tie.spec line-for-requires line-task-requires returns returns-2 returns-3)
+    tie.close (tie.spec (λ c κs. search needs) (λ c κs. search needs) returns returns-2 returns-3)

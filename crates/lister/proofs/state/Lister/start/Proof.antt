@@ -3,8 +3,5 @@ use mathlib.Core.Path.{refl}
 use Rattle.lister.proofs.state.Lister.start.Statement.{statement}
 use Rattle.lister.proofs.state.Lister.start.Tie as tie
 
-returns : tie.Need-returns
-returns c = refl
-
 pub start-spec : {M : Type 1} → statement M
-start-spec = tie.close (tie.spec returns)
+start-spec = tie.close (tie.spec (λ c. refl))

@@ -7,15 +7,6 @@ use borrow.Author.Needs.{needs}
 use Rattle.master.proofs.state.Master.answered_with.Statement.{statement}
 use Rattle.master.proofs.state.Master.answered_with.Tie as tie
 
-answered-requires : tie.Need-answered-requires
-answered-requires c κs = search needs
-
-type-of-requires : tie.Need-type-of-requires
-type-of-requires c κs = search needs
-
-operation-after-requires : tie.Need-operation-after-requires
-operation-after-requires c κs = search needs
-
 returns : tie.Need-returns
 returns c =
     let p = c .before in
@@ -26,4 +17,4 @@ returns c =
 
 pub answered-with-spec : {M : Type 1} → statement M
 answered-with-spec =
-    tie.close (tie.spec answered-requires type-of-requires operation-after-requires returns)
+    tie.close (tie.spec (λ c κs. search needs) (λ c κs. search needs) (λ c κs. search needs) returns)

@@ -6,9 +6,6 @@ use borrow.Author.Needs.{needs}
 use Rattle.master.proofs.state.Master.call_check.Statement.{statement}
 use Rattle.master.proofs.state.Master.call_check.Tie as tie
 
-in-ranges-requires : tie.Need-in-ranges-requires
-in-ranges-requires c κs = search needs
-
 returns : tie.Need-returns
 returns c = out-of-range (c .before .before .args .self) (c .before .before .args .room) (sym (c .before .in-ranges .ensures) ∙ not-true _ (c .if1 .taken))
 
@@ -19,4 +16,4 @@ returns-3 : tie.Need-returns-3
 returns-3 c = passes (c .before .before .before .args .self) (c .before .before .before .args .room) (sym (c .before .before .in-ranges .ensures) ∙ not-false _ (c .before .if1 .left)) (c .if2 .left)
 
 pub call-check-spec : {M : Type 1} → statement M
-call-check-spec = tie.close (tie.spec in-ranges-requires returns returns-2 returns-3)
+call-check-spec = tie.close (tie.spec (λ c κs. search needs) returns returns-2 returns-3)

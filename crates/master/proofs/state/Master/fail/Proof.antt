@@ -10,15 +10,6 @@ use borrow.Author.Needs.{needs}
 use Rattle.master.proofs.state.Master.fail.Statement.{statement}
 use Rattle.master.proofs.state.Master.fail.Tie as tie
 
-call-check-requires : tie.Need-call-check-requires
-call-check-requires c κs = search needs
-
-enum-known-check : tie.Need-enum-known-check
-enum-known-check c = search needs
-
-refused-requires : tie.Need-refused-requires
-refused-requires c κs = search needs
-
 returns : tie.Need-returns
 returns c =
     let a = c .before .before .before .before .before .before .args in
@@ -28,9 +19,6 @@ returns c =
 
 enum-told : tie.Need-enum-told
 enum-told c = search needs
-
-nothing-requires : tie.Need-nothing-requires
-nothing-requires c κs = search needs
 
 returns-2 : tie.Need-returns-2
 returns-2 c =
@@ -48,9 +36,6 @@ failed-requires c κs =
     let g = passed (a .self) _ (sym (ap faultOf (enum-told .given .1)) ∙ call-check .ensures) in
     (g .0, (ne-eqb _ _ (c .before .if1 .left), g .1))
 
-same-length : tie.Need-same-length
-same-length c = search needs
-
 returns-3 : tie.Need-returns-3
 returns-3 c =
     let a = c .before .before .before .before .before .before .before .before .before .before .args in
@@ -64,13 +49,5 @@ pub fail-spec : {M : Type 1} → statement M
 fail-spec =
     tie.close
     (tie.spec
-    call-check-requires
-    enum-known-check
-    refused-requires
-    returns
-    enum-told
-    nothing-requires
-    returns-2
-    failed-requires
-    same-length
-    returns-3)
+    (λ c κs. search needs) (λ c. search needs) (λ c κs. search needs) returns enum-told (λ c κs. search needs) returns-2 failed-requires
+    (λ c. search needs) returns-3)

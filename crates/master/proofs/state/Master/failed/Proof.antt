@@ -9,9 +9,6 @@ use borrow.Author.Needs.{needs}
 use Rattle.master.proofs.state.Master.failed.Statement.{statement}
 use Rattle.master.proofs.state.Master.failed.Tie as tie
 
-given-up-requires : tie.Need-given-up-requires
-given-up-requires c κs = search needs
-
 returns : tie.Need-returns
 returns c =
     let a = c .before .before .before .args in
@@ -27,9 +24,6 @@ send-requires c κs =
     let m = a .self in
     (sendable-permits (m .line) (m .rec) (sends m (pre .0) (pre .1 .0)), (numbered m (pre .0), pre .1 .1))
 
-same-length : tie.Need-same-length
-same-length c = search needs
-
 returns-2 : tie.Need-returns-2
 returns-2 c =
     let a = c .before .before .before .before .before .before .args in
@@ -38,4 +32,4 @@ returns-2 c =
 
 pub failed-spec : {M : Type 1} → statement M
 failed-spec =
-    tie.close (tie.spec given-up-requires returns add-send send-requires same-length returns-2)
+    tie.close (tie.spec (λ c κs. search needs) returns add-send send-requires (λ c. search needs) returns-2)

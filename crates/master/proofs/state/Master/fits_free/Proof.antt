@@ -6,23 +6,14 @@ use borrow.Author.Needs.{needs}
 use Rattle.master.proofs.state.Master.fits_free.Statement.{statement}
 use Rattle.master.proofs.state.Master.fits_free.Tie as tie
 
-is-line-requires : tie.Need-is-line-requires
-is-line-requires c κs = search needs
-
 returns : tie.Need-returns
 returns c = no-line (c .before .before .before .args .self) (sym (c .before .is-line .ensures) ∙ not-true _ (c .if1 .taken))
-
-in-range-requires : tie.Need-in-range-requires
-in-range-requires c κs = search needs
 
 returns-2 : tie.Need-returns-2
 returns-2 c =
     let p = c .before .before in
     no-number (p .before .before .before .args .self) (sym (p .before .is-line .ensures) ∙ not-false _ (p .if1 .left))
     (sym (c .before .in-range .ensures) ∙ not-true _ (c .if2 .taken))
-
-operation-fits-requires : tie.Need-operation-fits-requires
-operation-fits-requires c κs = search needs
 
 returns-3 : tie.Need-returns-3
 returns-3 c =
@@ -36,9 +27,4 @@ pub fits-free-spec : {M : Type 1} → statement M
 fits-free-spec =
     tie.close
     (tie.spec
-    is-line-requires
-    returns
-    in-range-requires
-    returns-2
-    operation-fits-requires
-    returns-3)
+    (λ c κs. search needs) returns (λ c κs. search needs) returns-2 (λ c κs. search needs) returns-3)

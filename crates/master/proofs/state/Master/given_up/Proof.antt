@@ -5,14 +5,5 @@ use borrow.Author.Needs.{needs}
 use Rattle.master.proofs.state.Master.given_up.Statement.{statement}
 use Rattle.master.proofs.state.Master.given_up.Tie as tie
 
-with-line-requires : tie.Need-with-line-requires
-with-line-requires c κs = search needs
-
-freed-requires : tie.Need-freed-requires
-freed-requires c κs = search needs
-
-returns : tie.Need-returns
-returns c = c .freed .ensures ∙ ap givenUpState (c .before .with-line .ensures)
-
 pub given-up-spec : {M : Type 1} → statement M
-given-up-spec = tie.close (tie.spec with-line-requires freed-requires returns)
+given-up-spec = tie.close (tie.spec (λ c κs. search needs) (λ c κs. search needs) (λ c. c .freed .ensures ∙ ap givenUpState (c .before .with-line .ensures)))

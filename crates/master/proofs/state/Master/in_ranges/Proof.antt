@@ -6,9 +6,6 @@ use borrow.Author.Needs.{needs}
 use Rattle.master.proofs.state.Master.in_ranges.Statement.{statement}
 use Rattle.master.proofs.state.Master.in_ranges.Tie as tie
 
-fits-free-requires : tie.Need-fits-free-requires
-fits-free-requires c κs = search needs
-
 returns : tie.Need-returns
 returns c = unfit (c .before .before .args .self) (sym (c .before .fits-free .ensures) ∙ not-true _ (c .if1 .taken))
 
@@ -23,9 +20,6 @@ returns-3 c =
     let p = q .before .before in
     too-many (p .before .before .args .self) (sym (p .before .fits-free .ensures) ∙ not-false _ (p .if1 .left)) (q .if2 .left) (c .if3 .taken)
 
-may-send-requires : tie.Need-may-send-requires
-may-send-requires c κs = search needs
-
 returns-4 : tie.Need-returns-4
 returns-4 c =
     let q = c .before .before .before in
@@ -35,4 +29,4 @@ returns-4 c =
 
 pub in-ranges-spec : {M : Type 1} → statement M
 in-ranges-spec =
-    tie.close (tie.spec fits-free-requires returns returns-2 returns-3 may-send-requires returns-4)
+    tie.close (tie.spec (λ c κs. search needs) returns returns-2 returns-3 (λ c κs. search needs) returns-4)

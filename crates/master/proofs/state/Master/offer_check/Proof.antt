@@ -6,24 +6,12 @@ use borrow.Author.Needs.{needs}
 use Rattle.master.proofs.state.Master.offer_check.Statement.{statement}
 use Rattle.master.proofs.state.Master.offer_check.Tie as tie
 
-returns : tie.Need-returns
-returns c = not-free (c .before .before .args .self) (c .before .before .args .rec) (c .if1 .taken)
-
-type-of-requires : tie.Need-type-of-requires
-type-of-requires c κs = search needs
-
-by-master-requires : tie.Need-by-master-requires
-by-master-requires c κs = search needs
-
 returns-2 : tie.Need-returns-2
 returns-2 c =
     let a = c .before .before .before .before .before .args in
     let if1 = c .before .before .before .if1 in
     let type-of = c .before .before .type-of in
     not-sent (a .self) (a .rec) (if1 .left) (type-of .result) (type-of .ensures) (sym (c .before .by-master .ensures) ∙ not-true _ (c .if2 .taken))
-
-permits-record-requires : tie.Need-permits-record-requires
-permits-record-requires c κs = search needs
 
 returns-3 : tie.Need-returns-3
 returns-3 c =
@@ -47,10 +35,5 @@ pub offer-check-spec : {M : Type 1} → statement M
 offer-check-spec =
     tie.close
     (tie.spec
-    returns
-    type-of-requires
-    by-master-requires
-    returns-2
-    permits-record-requires
-    returns-3
-    returns-4)
+    (λ c. not-free (c .before .before .args .self) (c .before .before .args .rec) (c .if1 .taken)) (λ c κs. search needs) (λ c κs. search needs)
+    returns-2 (λ c κs. search needs) returns-3 returns-4)

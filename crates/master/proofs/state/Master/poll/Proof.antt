@@ -12,15 +12,6 @@ use borrow.Author.Needs.{needs}
 use Rattle.master.proofs.state.Master.poll.Statement.{statement}
 use Rattle.master.proofs.state.Master.poll.Tie as tie
 
-t0-of-requires : tie.Need-t0-of-requires
-t0-of-requires c κs = search needs
-
-run-out-requires : tie.Need-run-out-requires
-run-out-requires c κs = search needs
-
-nothing-requires : tie.Need-nothing-requires
-nothing-requires c κs = search needs
-
 returns : tie.Need-returns
 returns c =
     let a = c .before .before .before .before .before .args in
@@ -28,9 +19,6 @@ returns c =
     let late = sym (c .before .before .run-out .ensures) ∙ not-true _ (c .before .if1 .taken) in
     ap (λ (s : Step). stepped s (now (a .out))) (c .nothing .ensures)
     ∙ no-poll (a .self) (a .at) (now (a .out)) (t0-of .result) (t0-of .ensures) late
-
-poll-of-requires : tie.Need-poll-of-requires
-poll-of-requires c κs = search needs
 
 send-requires : tie.Need-send-requires
 send-requires c κs =
@@ -40,9 +28,6 @@ send-requires c κs =
     let p : permitsRecord (m .line) (pollOf (m .line)) ≡ true =
     sendable-permits (m .line) (pollOf (m .line)) (poll-sendable (m .line) (lined m (pre .0))) in
     (ap (permitsRecord (m .line)) (c .before .poll-of .ensures) ∙ p, (numbered m (pre .0), pre .1))
-
-same-length : tie.Need-same-length
-same-length c = search needs
 
 returns-2 : tie.Need-returns-2
 returns-2 c =
@@ -59,11 +44,4 @@ pub poll-spec : {M : Type 1} → statement M
 poll-spec =
     tie.close
     (tie.spec
-    t0-of-requires
-    run-out-requires
-    nothing-requires
-    returns
-    poll-of-requires
-    send-requires
-    same-length
-    returns-2)
+    (λ c κs. search needs) (λ c κs. search needs) (λ c κs. search needs) returns (λ c κs. search needs) send-requires (λ c. search needs) returns-2)

@@ -6,18 +6,6 @@ use borrow.Author.Needs.{needs}
 use Rattle.master.proofs.state.Master.send.Statement.{statement}
 use Rattle.master.proofs.state.Master.send.Tie as tie
 
-value-requires : tie.Need-value-requires
-value-requires c κs = search needs
-
-send-requires : tie.Need-send-requires
-send-requires c κs = search needs
-
-after-sending-requires : tie.Need-after-sending-requires
-after-sending-requires c κs = search needs
-
-same-length : tie.Need-same-length
-same-length c = search needs
-
 returns : tie.Need-returns
 returns c =
     let s = c .before .before .before .before .before .before .before .before in
@@ -29,4 +17,4 @@ returns c =
 
 pub send-spec : {M : Type 1} → statement M
 send-spec =
-    tie.close (tie.spec value-requires send-requires after-sending-requires same-length returns)
+    tie.close (tie.spec (λ c κs. search needs) (λ c κs. search needs) (λ c κs. search needs) (λ c. search needs) returns)

@@ -6,20 +6,11 @@ use borrow.Author.Needs.{needs}
 use Rattle.master.proofs.state.Master.start.Statement.{statement}
 use Rattle.master.proofs.state.Master.start.Tie as tie
 
-is-line-requires : tie.Need-is-line-requires
-is-line-requires c κs = search needs
-
-cast-t6 : tie.Need-cast-t6
-cast-t6 c = search needs
-
 returns : tie.Need-returns
 returns c = let a = c .before .before .args in start-refused (a .line) (a .at) (sym (c .before .is-line .ensures) ∙ not-true _ (c .if1 .taken))
-
-cast-t12 : tie.Need-cast-t12
-cast-t12 c = search needs
 
 returns-2 : tie.Need-returns-2
 returns-2 c = let a = c .before .before .args in start-made (a .line) (a .at) (sym (c .before .is-line .ensures) ∙ not-false _ (c .if1 .left))
 
 pub start-spec : {M : Type 1} → statement M
-start-spec = tie.close (tie.spec is-line-requires cast-t6 returns cast-t12 returns-2)
+start-spec = tie.close (tie.spec (λ c κs. search needs) (λ c. search needs) returns (λ c. search needs) returns-2)

@@ -9,15 +9,6 @@ use borrow.Author.Needs.{needs}
 use Rattle.master.proofs.state.Master.tick.Statement.{statement}
 use Rattle.master.proofs.state.Master.tick.Tie as tie
 
-call-check-requires : tie.Need-call-check-requires
-call-check-requires c κs = search needs
-
-enum-known-check : tie.Need-enum-known-check
-enum-known-check c = search needs
-
-refused-requires : tie.Need-refused-requires
-refused-requires c κs = search needs
-
 returns : tie.Need-returns
 returns c =
     let a = c .before .before .before .before .before .before .args in
@@ -34,9 +25,6 @@ poll-requires c κs =
     let call-check = c .before .before .before .before .before .call-check in
     let enum-told = c .before .before .before .enum-told in
     passed (a .self) _ (sym (ap faultOf (enum-told .given .1)) ∙ call-check .ensures)
-
-same-length : tie.Need-same-length
-same-length c = search needs
 
 returns-2 : tie.Need-returns-2
 returns-2 c =
@@ -55,9 +43,6 @@ wait-requires c κs =
     let g = passed (a .self) _ (sym (ap faultOf (enum-told .given .1)) ∙ call-check .ensures) in
     (g .0, (ne-eqb _ _ (c .before .if1 .left), g .1))
 
-same-length-2 : tie.Need-same-length-2
-same-length-2 c = search needs
-
 returns-3 : tie.Need-returns-3
 returns-3 c =
     let a = c .before .before .before .before .before .before .before .before .before .before .args in
@@ -71,14 +56,5 @@ pub tick-spec : {M : Type 1} → statement M
 tick-spec =
     tie.close
     (tie.spec
-    call-check-requires
-    enum-known-check
-    refused-requires
-    returns
-    enum-told
-    poll-requires
-    same-length
-    returns-2
-    wait-requires
-    same-length-2
-    returns-3)
+    (λ c κs. search needs) (λ c. search needs) (λ c κs. search needs) returns enum-told poll-requires (λ c. search needs) returns-2 wait-requires
+    (λ c. search needs) returns-3)

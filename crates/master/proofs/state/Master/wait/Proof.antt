@@ -8,23 +8,11 @@ use borrow.Author.Needs.{needs}
 use Rattle.master.proofs.state.Master.wait.Statement.{statement}
 use Rattle.master.proofs.state.Master.wait.Tie as tie
 
-run-out-requires : tie.Need-run-out-requires
-run-out-requires c κs = search needs
-
-nothing-requires : tie.Need-nothing-requires
-nothing-requires c κs = search needs
-
 returns : tie.Need-returns
 returns c =
     let a = c .before .before .before .before .args in
     ap (λ (s : Step). stepped s (now (a .out))) (c .nothing .ensures)
     ∙ waits (a .self) (a .at) (now (a .out)) (sym (c .before .before .run-out .ensures) ∙ not-true _ (c .before .if1 .taken))
-
-failed-requires : tie.Need-failed-requires
-failed-requires c κs = search needs
-
-same-length : tie.Need-same-length
-same-length c = search needs
 
 returns-2 : tie.Need-returns-2
 returns-2 c =
@@ -34,4 +22,4 @@ returns-2 c =
     c .before .before .failed .ensures ∙ silent (a .self) (a .at) (now (a .out)) (sym (run-out .ensures) ∙ not-false _ (if1 .left))
 
 pub wait-spec : {M : Type 1} → statement M
-wait-spec = tie.close (tie.spec run-out-requires nothing-requires returns failed-requires same-length returns-2)
+wait-spec = tie.close (tie.spec (λ c κs. search needs) (λ c κs. search needs) returns (λ c κs. search needs) (λ c. search needs) returns-2)

@@ -3,17 +3,8 @@ use borrow.Author.Needs.{needs}
 use Rattle.tallies.proofs.tally.Tally.counted.Statement.{statement}
 use Rattle.tallies.proofs.tally.Tally.counted.Tie as tie
 
-wrapping-add-u64-requires : tie.Need-wrapping-add-u64-requires
-wrapping-add-u64-requires c κs = search needs
-
-same-requires : tie.Need-same-requires
-same-requires c κs = search needs
-
 returns : tie.Need-returns
 returns c = rw (c .before .before .wrapping-add-u64 .ensures, ← (c .before .same .ensures), c .if1 .taken)
-
-wrapping-add-u64-requires-2 : tie.Need-wrapping-add-u64-requires-2
-wrapping-add-u64-requires-2 c κs = search needs
 
 returns-2 : tie.Need-returns-2
 returns-2 c = rw (c .before .before .before .wrapping-add-u64 .ensures, c .wrapping-add-u642 .ensures, ← (c .before .before .same .ensures), c .before .if1 .left)
@@ -22,8 +13,4 @@ pub counted-spec : {M : Type 1} → statement M
 counted-spec =
     tie.close
     (tie.spec
-    wrapping-add-u64-requires
-    same-requires
-    returns
-    wrapping-add-u64-requires-2
-    returns-2)
+    (λ c κs. search needs) (λ c κs. search needs) returns (λ c κs. search needs) returns-2)
