@@ -16,16 +16,16 @@ use Rattle.records.specs.declared.refusals.Refusal.{Refusal}
 use Rattle.records.specs.declared.records.Record.{Record}
 use Rattle.records.proofs.Again.{record-again}
 use Rattle.records.proofs.Apart.{one-refusal}
-use Rattle.words.specs.Fields.{sameText}
+use Rattle.text.specs.Fields.{sameText}
 use Rattle.text.specs.Putting.{puts}
 use Rattle.text.proofs.Puts.{then}
-use Rattle.words.proofs.Rows.{same-is-equal, equal-is-same}
+use Rattle.text.proofs.Rows.{same-is-equal, equal-is-same}
 use Rattle.blocks.specs.Layout.{joined}
-use Rattle.blocks.specs.Numbers.{fourBytes, fourSaid}
+use Rattle.text.specs.Fours.{fourBytes, fourSaid}
 use Rattle.blocks.specs.Record.{valuesLength, textLength, recordLength, recordBytes, recordAt, is, refused, recordIn, OneFound, Narrow, RecordBack, RecordBlock}
 use Rattle.blocks.specs.declared.record.Found.the-variants.{Is, Refused}
 use Rattle.blocks.proofs.Laid.{filled-with, joined-length, each-back}
-use Rattle.blocks.proofs.Fours.{four-length, four-back}
+use Rattle.text.proofs.FourBytes.{four-length, four-back}
 
 pub pad-length : (n : ℕ) (xs : List ℕ) → length (pad n xs) ≡ n
 pad-length zero xs = refl

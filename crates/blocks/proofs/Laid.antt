@@ -11,7 +11,7 @@ use lib.Seq.{take-at, drop-at, drop-drop, drop-cons, getD-set-same, getD-set-oth
 use borrow.Author.Tests.{eq-eqb, ne-eqb, eqb-true, eqb-false}
 use Rattle.laws.specs.Truth.{All}
 use Rattle.laws.proofs.Passes.{on-test}
-use Rattle.words.specs.Fields.{sameText}
+use Rattle.text.specs.Fields.{sameText}
 use Rattle.text.specs.Putting.{puts, placed}
 use Rattle.text.proofs.Puts.{with-room}
 use Rattle.blocks.specs.Layout.{joined, each, filled}

@@ -1,3 +1,11 @@
 pub mod Laid
-pub mod Fours
 pub mod Found
+pub mod Parts
+pub mod Loads
+pub mod Puts
+pub mod GathererPut
+pub mod GathererBlock
+pub mod InPlace
+pub mod MasterBlock
+pub mod Copied
+pub mod DeskBlock

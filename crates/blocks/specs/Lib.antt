@@ -1,3 +1,7 @@
 pub mod Layout
-pub mod Numbers
 pub mod Record
+pub mod Heads
+pub mod States
+pub mod Gatherers
+pub mod Masters
+pub mod Desks

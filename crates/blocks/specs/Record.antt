@@ -9,9 +9,9 @@ use Rattle.laws.specs.Truth.{All}
 use Rattle.records.specs.Records.{typeOf, fieldsOf, valuesOf, recordOf}
 use Rattle.records.specs.Refusals.{No, no, refusalOf}
 use Rattle.records.specs.declared.records.Record.{Record}
-use Rattle.words.specs.Fields.{sameText}
+use Rattle.text.specs.Fields.{sameText}
 use Rattle.blocks.specs.Layout.{joined, each, stretch, filled}
-use Rattle.blocks.specs.Numbers.{fourBytes, fourSaid}
+use Rattle.text.specs.Fours.{fourBytes, fourSaid}
 use Rattle.blocks.specs.declared.record.Found as f
 
 -- the bytes of the values; those for a text, which no record of the three lines has; and all bytes of a block

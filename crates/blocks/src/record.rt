@@ -1,6 +1,6 @@
 // A record as a block: its type, ten values of four bytes, and the bytes for a text, which stay 0 (rule F5).
 ghost use mathlib.Core.Path.{_≡_};
-ghost use Rattle.words.specs.Fields.{sameText};
+ghost use Rattle.text.specs.Fields.{sameText};
 ghost use Rattle.text.specs.Putting.{puts};
 ghost use Rattle.blocks.specs.Layout.{filled};
 ghost use Rattle.blocks.specs.Record.{recordLength, recordBytes, recordAt, foundOf, recordIn};
@@ -13,9 +13,9 @@ use records::records::record_of;
 use records::records::type_of;
 use records::records::values_of;
 use records::refusals::Refusal;
+use text::fields::same;
 use text::putting::put_byte;
 use text::putting::put_text;
-use words::fields::same;
 
 // The bytes of the values.
 pub const VALUES_LENGTH: usize = 40;

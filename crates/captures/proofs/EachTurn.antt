@@ -4,7 +4,7 @@ use mathlib.Core.List.{List, [], _∷_}
 use Prim.Native.Nat.{ℕ, _≤_}
 use native.Mathlib.Omega.{arith}
 use lib.ListN.{length}
-use Rattle.lister.specs.declared.state.Wants.the-variants.{Read, End}
+use Rattle.captures.specs.declared.lister.Wants.the-variants.{Read, End}
 use Rattle.captures.specs.Captures.{listingOf}
 use Rattle.captures.specs.Runs.{Stand, Given, begun, bufferOf, stepOf, nextStand, MayTurn, standAfter, MayRun, WholeListing, EachTurn, RoomToRead}
 use Rattle.captures.proofs.Turning.{wanted}

@@ -8,18 +8,18 @@ use lib.ListN.{length, take, drop}
 use lib.Seq.{length-take-le}
 use Rattle.characters.specs.Marks.{unfinished}
 use Rattle.records.specs.Answers.{written}
-use Rattle.listings.specs.Lines.{wrapped, lineRoom}
-use Rattle.pieces.specs.declared.pieces.Listed.{Listed}
-use Rattle.lister.specs.declared.state.Lister.{Lister}
-use Rattle.lister.specs.declared.state.Wants.the-variants.{Read, Again, End}
-use Rattle.pieces.specs.Pieces.{spansOf, linesIn, linesOf, keptFrom}
-use Rattle.tails.specs.Tails.{tailPut}
-use Rattle.tails.proofs.Kept.{kept-front, kept-within}
-use Rattle.pieces.specs.Whole.{linesLeft}
+use Rattle.captures.specs.Listing.{wrapped, lineRoom}
+use Rattle.captures.specs.declared.part.Listed.{Listed}
+use Rattle.captures.specs.declared.lister.Lister.{Lister}
+use Rattle.captures.specs.declared.lister.Wants.the-variants.{Read, Again, End}
+use Rattle.captures.specs.Part.{spansOf, linesIn, linesOf, keptFrom}
+use Rattle.pieces.specs.Tails.{tailPut}
+use Rattle.pieces.proofs.Kept.{kept-front, kept-within}
+use Rattle.captures.specs.Whole.{linesLeft}
 use Rattle.captures.specs.Turn.{Turned, again, behind, carried, carriedOn}
 use Rattle.captures.specs.Runs.{frontOf}
-use Rattle.pieces.proofs.Filled.{Fills, part-fills}
-use Rattle.pieces.proofs.Whole.{in-two}
+use Rattle.captures.proofs.Filled.{Fills, part-fills}
+use Rattle.captures.proofs.Whole.{in-two}
 
 -- what is written, and the lines left of the bytes held and any bytes behind them, are the lines of all bytes behind the digit
 abbrev pub Going : ℕ → ℕ → ℕ → ℕ → List ℕ → List ℕ → List ℕ → Type 0

@@ -1,3 +1,12 @@
+pub mod Puts
+pub mod Spans
+pub mod Listed
+pub mod Shifts
+pub mod Whole
+pub mod PieceRuns
+pub mod Filled
+pub mod Checks
+pub mod Tasks
 pub mod Sample
 pub mod Turning
 pub mod Going

@@ -11,21 +11,21 @@ use Rattle.laws.specs.Numerals.{numeralOn, numberOn}
 use Rattle.characters.specs.Characters.{inSet}
 use Rattle.characters.specs.Checksum.{total, checksumOf, checkText}
 use Rattle.forms.specs.Forms.{forms, onLine, lookIn, formOf, typeRow, dataType, slotsIn, countOf, slotsOf, widthIn, widthOf}
-use Rattle.lines.specs.Lines.{isLine, lineOf}
+use Rattle.forms.specs.Lines.{isLine, lineOf}
 use Rattle.records.specs.Records.{recordOf}
-use Rattle.packets.specs.Packets.{leadOf, isDecimal, permits, ruled, permitsNumber}
+use Rattle.values.specs.Packets.{leadOf, isDecimal, permits, ruled, permitsNumber}
 use Rattle.values.specs.Values.{narrow, numberFits, valueOf, permittedFrom, permitted}
-use Rattle.framing.specs.Frame.{countText, summedOf, fieldOf, frameChecks}
-use Rattle.reading.specs.Field.{outside, wrongLetter, badValue, valuesIn, misshapen, fieldChecks}
+use Rattle.reading.specs.Frame.{countText, summedOf, fieldOf, frameChecks}
+use Rattle.reading.specs.Contents.{outside, wrongLetter, badValue, valuesIn, misshapen, fieldChecks}
 use Rattle.reading.specs.Reading.{recordIn, checks, readingOf}
-use Rattle.turns.specs.Turns.{turnOf}
-use Rattle.searching.specs.Search.{cutFrom, spanOf}
+use Rattle.cutting.specs.Turns.{turnOf}
+use Rattle.cutting.specs.Search.{cutFrom, spanOf}
 use Rattle.text.specs.Numbers.{countOn, digitCount, decimalText}
-use Rattle.items.specs.Items.{refusalText}
-use Rattle.listings.specs.Lines.{lineText}
+use Rattle.text.specs.Items.{refusalText}
+use Rattle.captures.specs.Listing.{lineText}
 use Rattle.captures.specs.Sample.{PaperListing, NoInput, OtherByte, DigitAlone}
-use Rattle.pieces.specs.Pieces.{spansOn, spansOf, lineAt, linesIn, linesOf}
-use Rattle.lister.specs.Line.{lineNamed}
+use Rattle.captures.specs.Part.{spansOn, spansOf, lineAt, linesIn, linesOf}
+use Rattle.pieces.specs.Line.{lineNamed}
 use Rattle.captures.specs.Captures.{listingOf}
 
 pub paper-listing : PaperListing

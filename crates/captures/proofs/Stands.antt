@@ -10,26 +10,26 @@ use lib.Seq.{take-at, length-take-le}
 use borrow.Author.Tests.{le-leb, eqb-true, eqb-false, ne-eqb}
 use Rattle.laws.proofs.Passes.{on-test, from-bounds}
 use Rattle.characters.specs.Marks.{unfinished}
-use Rattle.lines.specs.Lines.{isLine}
+use Rattle.forms.specs.Lines.{isLine}
 use Rattle.records.specs.Answers.{good, written}
 use Rattle.text.specs.Putting.{puts}
 use Rattle.text.proofs.Puts.{at-front}
-use Rattle.listings.specs.Lines.{lineRoom}
-use Rattle.lister.specs.declared.state.Lister.{Lister}
-use Rattle.lister.specs.declared.state.Task.{Task}
-use Rattle.lister.specs.declared.state.Task.the-variants as task
-use Rattle.lister.specs.declared.state.Wants.{Wants}
-use Rattle.lister.specs.declared.state.Wants.the-variants.{Read, Again, End}
-use Rattle.pieces.specs.Pieces.{linesOf}
+use Rattle.captures.specs.Listing.{lineRoom}
+use Rattle.captures.specs.declared.lister.Lister.{Lister}
+use Rattle.captures.specs.declared.lister.Task.{Task}
+use Rattle.captures.specs.declared.lister.Task.the-variants as task
+use Rattle.captures.specs.declared.lister.Wants.{Wants}
+use Rattle.captures.specs.declared.lister.Wants.the-variants.{Read, Again, End}
+use Rattle.captures.specs.Part.{linesOf}
 use Rattle.captures.specs.Captures.{listingOf}
-use Rattle.lister.specs.Line.{badLine, lineNamed}
-use Rattle.lister.specs.Lister.{atFirst, placeFits, listFault, lineFor, lineTask, readTask, taskFor, ended}
+use Rattle.pieces.specs.Line.{badLine, lineNamed}
+use Rattle.captures.specs.Lister.{atFirst, placeFits, listFault, lineFor, lineTask, readTask, taskFor, ended}
 use Rattle.captures.specs.Turn.{Turned, unnamed, beside, carriedOn, doneBy, wantedOf}
 use Rattle.captures.specs.Runs.{Stand, Given, begun, bufferOf, frontOf, standBehind, MayTurn}
-use Rattle.pieces.proofs.Shifts.{lines-further}
-use Rattle.lister.proofs.Checks.{all-fits, passes}
-use Rattle.lister.proofs.Named.{line-named}
-use Rattle.lister.proofs.Tasks.{none-named, one-named, more-read, all-read}
+use Rattle.captures.proofs.Shifts.{lines-further}
+use Rattle.captures.proofs.Checks.{all-fits, passes}
+use Rattle.pieces.proofs.Named.{line-named}
+use Rattle.captures.proofs.Tasks.{none-named, one-named, more-read, all-read}
 use Rattle.captures.proofs.Going.{Going, Went, went}
 
 -- the line is known, and its listing goes on

@@ -7,13 +7,13 @@ use lib.ListN.{length, take}
 use Rattle.records.specs.Refusals.{No}
 use Rattle.records.specs.Answers.{good, fails, Outcome, written, refused}
 use Rattle.text.specs.Putting.{puts}
-use Rattle.pieces.specs.declared.pieces.Listed.{Listed}
-use Rattle.lister.specs.declared.state.Lister.{Lister}
-use Rattle.lister.specs.declared.state.Task.{Task}
-use Rattle.pieces.specs.Pieces.{listPart, keptFrom}
-use Rattle.tails.specs.Tails.{tailPut}
-use Rattle.lister.specs.Line.{badLine}
-use Rattle.lister.specs.Lister.{listFault, taskFor, ended}
+use Rattle.captures.specs.declared.part.Listed.{Listed}
+use Rattle.captures.specs.declared.lister.Lister.{Lister}
+use Rattle.captures.specs.declared.lister.Task.{Task}
+use Rattle.captures.specs.Part.{listPart, keptFrom}
+use Rattle.pieces.specs.Tails.{tailPut}
+use Rattle.pieces.specs.Line.{badLine}
+use Rattle.captures.specs.Lister.{listFault, taskFor, ended}
 use Rattle.captures.specs.Turn.{Turned, again, behind, unnamed, carried, carriedOn, doneBy, wantedOf, listOf}
 
 pub unnamed-put : (m : Lister) (out t : List ℕ) (l : Lister) (r : ℕ) (x : List ℕ) → t ≡ badLine → (r, x) ≡ puts t 0 out → l ≡ ended m → (l, (written r, x)) ≡ unnamed m out

@@ -2,9 +2,9 @@
 use Prim.Native.Nat.{ℕ}
 use mathlib.Core.Bool.{cond}
 use mathlib.Core.List.{List, [], _∷_}
-use Rattle.lines.specs.Lines.{isLine}
-use Rattle.pieces.specs.Pieces.{linesOf}
-use Rattle.lister.specs.Line.{badLine, lineNamed}
+use Rattle.forms.specs.Lines.{isLine}
+use Rattle.captures.specs.Part.{linesOf}
+use Rattle.pieces.specs.Line.{badLine, lineNamed}
 
 -- what the program prints for a whole input: ordinals from 1, offsets from 0 after the digit
 unfoldable pub listingOf : List ℕ → List ℕ

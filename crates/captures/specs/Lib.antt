@@ -1,3 +1,7 @@
+pub mod Listing
+pub mod Part
+pub mod Whole
+pub mod Lister
 pub mod Captures
 pub mod Turn
 pub mod Runs

@@ -5,11 +5,11 @@ use Prim.Native.Nat.{ℕ, _≤_, _<_}
 use lib.ListN.{length, take}
 use Rattle.characters.specs.Marks.{longest, unfinished}
 use Rattle.records.specs.Answers.{good, Outcome, written, refused}
-use Rattle.listings.specs.Lines.{lineRoom}
-use Rattle.lister.specs.declared.state.Lister.{Lister}
-use Rattle.lister.specs.declared.state.Wants.the-variants.{Read, Again, End}
+use Rattle.captures.specs.Listing.{lineRoom}
+use Rattle.captures.specs.declared.lister.Lister.{Lister}
+use Rattle.captures.specs.declared.lister.Wants.the-variants.{Read, Again, End}
 use Rattle.captures.specs.Captures.{listingOf}
-use Rattle.lister.specs.Lister.{atFirst, listFault}
+use Rattle.captures.specs.Lister.{atFirst, listFault}
 use Rattle.captures.specs.Turn.{Turned, listOf}
 
 -- where a run stands: the state and the buffer that a turn left, all bytes that were read and all that were written

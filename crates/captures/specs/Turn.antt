@@ -5,17 +5,17 @@ use mathlib.Core.List.{List}
 use lib.ListN.{length, take}
 use Rattle.records.specs.Answers.{Fault, good, fails, Outcome, written, refused}
 use Rattle.text.specs.Putting.{puts}
-use Rattle.pieces.specs.declared.pieces.Listed.{Listed}
-use Rattle.listings.specs.Lines.{wrapped}
-use Rattle.pieces.specs.Pieces.{listPart, keptFrom}
-use Rattle.tails.specs.Tails.{tailPut}
-use Rattle.lister.specs.declared.state.Lister.{Lister}
-use Rattle.lister.specs.declared.state.Task.{Task}
-use Rattle.lister.specs.declared.state.Task.the-variants.{Lists, Unnamed, Over}
-use Rattle.lister.specs.declared.state.Wants.{Wants}
-use Rattle.lister.specs.declared.state.Wants.the-variants.{Read, Again}
-use Rattle.lister.specs.Lister.{listFault, taskFor, ended}
-use Rattle.lister.specs.Line.{badLine}
+use Rattle.captures.specs.declared.part.Listed.{Listed}
+use Rattle.captures.specs.Listing.{wrapped}
+use Rattle.captures.specs.Part.{listPart, keptFrom}
+use Rattle.pieces.specs.Tails.{tailPut}
+use Rattle.captures.specs.declared.lister.Lister.{Lister}
+use Rattle.captures.specs.declared.lister.Task.{Task}
+use Rattle.captures.specs.declared.lister.Task.the-variants.{Lists, Unnamed, Over}
+use Rattle.captures.specs.declared.lister.Wants.{Wants}
+use Rattle.captures.specs.declared.lister.Wants.the-variants.{Read, Again}
+use Rattle.captures.specs.Lister.{listFault, taskFor, ended}
+use Rattle.pieces.specs.Line.{badLine}
 
 -- the state behind a turn, its answer, the buffer and the output
 abbrev pub Turned : Type 0

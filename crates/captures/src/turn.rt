@@ -2,17 +2,17 @@
 ghost use mathlib.Core.Path.{_≡_};
 ghost use Rattle.records.specs.Answers.{outcomeOf};
 ghost use Rattle.captures.specs.Turn.{unnamed, carriedOn, listOf};
+use crate::lister::Lister;
+use crate::lister::Task;
+use crate::lister::Wants;
+use crate::part::kept_from;
+use crate::part::list_part;
 use characters::slices::less;
 use characters::slices::part;
-use lister::line::bad_line;
-use lister::state::Lister;
-use lister::state::Task;
-use lister::state::Wants;
-use pieces::pieces::kept_from;
-use pieces::pieces::list_part;
+use pieces::line::bad_line;
+use pieces::tails::keep_tail;
 use records::answers::Check;
 use records::answers::Writing;
-use tails::tails::keep_tail;
 use text::putting::put_text;
 
 // The state behind a turn, and how many bytes of the output are to be written, or its refusal.

@@ -3,13 +3,13 @@ ghost use mathlib.Core.Path.{_≡_};
 ghost use lib.ListN.{length};
 use crate::runs;
 use characters::slices::part;
-use compared::rows::put_row;
 use stdio::input::Got;
 use stdio::input::read_full;
 use stdio::output::write_out;
-use tallies::tally::Tally;
-use tallies::tally::put_tally;
-use words::fields::field;
+use text::compared::put_row;
+use text::fields::field;
+use text::tally::Tally;
+use text::tally::put_tally;
 
 // Room for a row's name and expectation, which have under 65,536 bytes, as that is all that is read, and 256 for what came.
 pub(crate) fn output() -> [u8; 65792]

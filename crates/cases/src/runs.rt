@@ -4,23 +4,23 @@
 use characters::checksum::checksum;
 use characters::slices::byte_at;
 use characters::slices::part;
-use frametexts::frames::put_meant;
-use frametexts::frames::put_shown;
-use frametexts::hex::put_hex;
-use items::items::put_refusal;
-use items::items::put_values;
-use items::items::word_values;
 use reading::reading::read;
 use records::answers::Reading;
 use records::answers::Writing;
 use records::records::Record;
 use records::records::record_of;
 use records::records::type_of;
+use text::fields::field;
+use text::frames::put_meant;
+use text::frames::put_shown;
+use text::hex::put_hex;
+use text::items::put_refusal;
+use text::items::put_values;
+use text::items::word_values;
 use text::numbers::number;
 use text::numbers::put_number;
 use text::putting::put_byte;
 use text::putting::put_text;
-use words::fields::field;
 use writing::writing::write;
 
 pub(crate) fn kind(row: &[u8]) -> u8 {

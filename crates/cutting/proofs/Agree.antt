@@ -7,16 +7,16 @@ use native.Mathlib.Numerals.{add-one}
 use lib.ListN.{length, take, drop, getD, length-append, length-drop, drop-of-length-le}
 use lib.Seq.{take-length, take-suc, getD-drop, drop-cons}
 use Rattle.laws.proofs.Passes.{order}
-use Rattle.turns.specs.declared.turns.Turn.{Turn}
-use Rattle.gathering.specs.declared.gather.Item.the-variants.{Byte}
-use Rattle.turns.specs.Turns.{turnOf}
-use Rattle.gathering.specs.Gather.{atStart}
-use Rattle.searching.specs.Search.{cutFrom, spanOf}
-use Rattle.turns.proofs.Cases.{Case, begins, skips, ends, drops, joins, turn-case}
-use Rattle.searching.proofs.Steps.{none-left, on-ends, on-joins, on-drops}
+use Rattle.cutting.specs.declared.turns.Turn.{Turn}
+use Rattle.cutting.specs.declared.gather.Item.the-variants.{Byte}
+use Rattle.cutting.specs.Turns.{turnOf}
+use Rattle.cutting.specs.Gather.{atStart}
+use Rattle.cutting.specs.Search.{cutFrom, spanOf}
+use Rattle.cutting.proofs.Cases.{Case, begins, skips, ends, drops, joins, turn-case}
+use Rattle.cutting.proofs.Steps.{none-left, on-ends, on-joins, on-drops}
 use Rattle.cutting.specs.Same.{finding, searched, SameTelegrams}
-use Rattle.gathering.proofs.Ranges.{start-range}
-use Rattle.gathering.proofs.Held.{with, turning, gathered, by-held}
+use Rattle.cutting.proofs.Ranges.{start-range}
+use Rattle.cutting.proofs.Held.{with, turning, gathered, by-held}
 
 -- the bytes held are those of s before place i
 record Behind (s : List ℕ) (i : ℕ) (h : List ℕ) : Type 0 where

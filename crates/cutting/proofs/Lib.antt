@@ -1,3 +1,13 @@
-pub mod Readings
+pub mod Cases
+pub mod Ranges
+pub mod Held
+pub mod Hits
 pub mod Answers
+pub mod Steps
+pub mod Openings
+pub mod Looks
+pub mod First
+pub mod Looked
+pub mod Readings
+pub mod Cuts
 pub mod Agree

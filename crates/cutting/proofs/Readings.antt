@@ -4,12 +4,12 @@ use mathlib.Core.Bool.{true, false}
 use mathlib.Core.List.{List}
 use Prim.Native.Nat.{ℕ}
 use Rattle.records.specs.Refusals.{no}
-use Rattle.lines.specs.Lines.{isLine}
+use Rattle.forms.specs.Lines.{isLine}
 use Rattle.records.specs.declared.answers.Reading.{Reading}
 use Rattle.records.specs.Answers.{answerOf}
 use Rattle.reading.specs.Reading.{readingOf}
-use Rattle.searching.specs.declared.search.Span.the-variants.{Found, Nothing}
-use Rattle.searching.specs.Search.{spanOf, partOf}
+use Rattle.cutting.specs.declared.search.Span.the-variants.{Found, Nothing}
+use Rattle.cutting.specs.Search.{spanOf, partOf}
 use Rattle.cutting.specs.Cutting.{nothing, read, refused, nextOf}
 
 module _ (line : ℕ) (s : List ℕ) (from : ℕ) where

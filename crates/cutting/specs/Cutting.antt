@@ -4,12 +4,12 @@ use mathlib.Core.Path.{_≡_}
 use mathlib.Core.Bool.{cond}
 use mathlib.Core.List.{List}
 use Rattle.records.specs.Refusals.{No, no, refusalOf}
-use Rattle.lines.specs.Lines.{isLine}
+use Rattle.forms.specs.Lines.{isLine}
 use Rattle.records.specs.Answers.{Answer, answerOf}
 use Rattle.reading.specs.Reading.{readingOf}
-use Rattle.searching.specs.declared.search.Span.{Span}
-use Rattle.searching.specs.declared.search.Span.the-variants.{Found, Nothing}
-use Rattle.searching.specs.Search.{spanOf, partOf}
+use Rattle.cutting.specs.declared.search.Span.{Span}
+use Rattle.cutting.specs.declared.search.Span.the-variants.{Found, Nothing}
+use Rattle.cutting.specs.Search.{spanOf, partOf}
 use Rattle.cutting.specs.declared.cutting.Cutting as c
 
 -- what cutting and reading finds: nothing, a telegram from start to end with what it reads as, or a refusal's number and place

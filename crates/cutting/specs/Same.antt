@@ -3,11 +3,11 @@ use mathlib.Core.Path.{_≡_}
 use mathlib.Core.List.{List, [], _∷_}
 use Prim.Native.Nat.{ℕ, zero, suc, _≤_}
 use lib.ListN.{length}
-use Rattle.gathering.specs.Gather.{atStart}
-use Rattle.gathering.specs.Streams.{fed}
-use Rattle.searching.specs.declared.search.Span.{Span}
-use Rattle.searching.specs.declared.search.Span.the-variants.{Found, Nothing}
-use Rattle.searching.specs.Search.{spanOf, partOf}
+use Rattle.cutting.specs.Gather.{atStart}
+use Rattle.cutting.specs.Streams.{fed}
+use Rattle.cutting.specs.declared.search.Span.{Span}
+use Rattle.cutting.specs.declared.search.Span.the-variants.{Found, Nothing}
+use Rattle.cutting.specs.Search.{spanOf, partOf}
 
 -- what a search finds, before what later searches do from its end on
 abbrev pub finding : List ℕ → Span → (ℕ → List (List ℕ)) → List (List ℕ)

@@ -1,13 +1,13 @@
 // The next telegram of a lent slice, cut and then read (rule C9).
 ghost use mathlib.Core.Path.{_≡_};
 ghost use Rattle.cutting.specs.Cutting.{cuttingOf, nextOf};
-use lines::lines::is_line;
+use crate::search::Span;
+use crate::search::part_of;
+use crate::search::span_of;
+use forms::lines::is_line;
 use reading::reading::read;
 use records::answers::Reading;
 use records::refusals::Refusal;
-use searching::search::Span;
-use searching::search::part_of;
-use searching::search::span_of;
 
 // A cut telegram is then read; or none is left, or the line is refused.
 pub enum Cutting {

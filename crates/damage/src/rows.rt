@@ -1,12 +1,12 @@
 // The rows: how many readings are as the rules give them, of how many.
 use crate::telegrams;
 use characters::slices::part;
-use compared::rows::put_row;
 use stdio::output::write_out;
-use tallies::tally::Tally;
-use tallies::tally::put_tally;
+use text::compared::put_row;
 use text::numbers::put_number;
 use text::putting::put_text;
+use text::tally::Tally;
+use text::tally::put_tally;
 
 // Says a row, and counts it.
 fn told(name: &[u8], expected: &[u8], came: &[u8], tally: Tally) -> Tally {

@@ -9,7 +9,7 @@ use lib.ListN.{length, take, drop, replicate}
 use lib.Seq.{take-append-seam}
 use borrow.Author.Tests.{ltb-true}
 use Rattle.laws.proofs.Truths.{clash, both-left}
-use Rattle.lines.specs.Lines.{isLine}
+use Rattle.forms.specs.Lines.{isLine}
 use Rattle.forms.specs.Forms.{bySlave}
 use Rattle.records.specs.Records.{typeOf}
 use Rattle.records.specs.declared.records.Record.{Record}
@@ -17,20 +17,20 @@ use Rattle.records.specs.declared.records.Record.the-variants.{Rejected}
 use Rattle.values.specs.Values.{permitsRecord}
 use Rattle.records.specs.Answers.{Fault, good, fails}
 use Rattle.writing.specs.Writing.{telegramOf, sentOf}
-use Rattle.roundtrips.proofs.Trips.{written-reads}
+use Rattle.writing.proofs.Trips.{written-reads}
 use Rattle.characters.specs.Marks.{longest}
-use Rattle.deciding.specs.Deciding.{What, Ruling, silent, fault, repeat, handle, answersWith}
-use Rattle.deciding.proofs.Numbers.{ruling-number}
-use Rattle.replying.proofs.Permitted.{fault-permitted}
-use Rattle.masterrules.specs.Rules.{isFailure}
+use Rattle.desk.specs.Deciding.{What, Ruling, silent, fault, repeat, handle, answersWith}
+use Rattle.desk.proofs.Numbers.{ruling-number}
+use Rattle.desk.proofs.Permitted.{fault-permitted}
+use Rattle.master.specs.Rules.{isFailure}
 use Rattle.conduct.proofs.Master.Calls.{rejects}
 use Rattle.desk.specs.Answers.{Done, done, lost}
 use Rattle.desk.specs.State.{inRanges, storedOf, startOf}
 use Rattle.desk.specs.Panel.{losesLine, notedOf, faultless, recordFault, keyFault, withQueued, tickOf, queueOf, setOf, keyOf}
-use Rattle.deskqueue.specs.Queue.{replyTo}
-use Rattle.deskhearing.specs.Hearing.{Hearing, faultedOf, repeatedOf, handledOf, appliedOf, ruling, heardOf, hearOf}
+use Rattle.desk.specs.Queue.{replyTo}
+use Rattle.desk.specs.Hearing.{Hearing, faultedOf, repeatedOf, handledOf, appliedOf, ruling, heardOf, hearOf}
 use Rattle.desk.specs.declared.state.Desk.{Desk}
-use Rattle.deskhearing.proofs.Permitted.{answer-permitted}
+use Rattle.desk.proofs.Answering.{answer-permitted}
 use Rattle.conduct.proofs.Desk.Stored.{reply-sent}
 use Rattle.conduct.proofs.Desk.Kept as k
 use Rattle.conduct.specs.Desk.Calls as c

@@ -8,20 +8,19 @@ use lib.ListN.{take}
 use lib.Seq.{take-append-seam}
 use borrow.Author.Tests.{ne-eqb}
 use Rattle.laws.proofs.Truths.{both-left}
-use Rattle.lines.specs.Lines.{isLine}
+use Rattle.forms.specs.Lines.{isLine}
 use Rattle.forms.specs.Forms.{byMaster}
 use Rattle.records.specs.Records.{typeOf}
 use Rattle.records.specs.declared.records.Record.{Record}
 use Rattle.values.specs.Values.{permitsRecord}
 use Rattle.reading.specs.Reading.{readingOf}
 use Rattle.writing.specs.Writing.{telegramOf, sentOf}
-use Rattle.roundtrips.proofs.Trips.{written-reads}
-use Rattle.master.specs.Answers.{Told}
+use Rattle.writing.proofs.Trips.{written-reads}
+use Rattle.master.specs.Answers.{Told, Which, again}
 use Rattle.master.specs.State.{isFree, sendable, inRanges, withLine, startOf}
 use Rattle.master.specs.Sending.{Behind, sendingOf, offerOf, tickOf}
-use Rattle.masterhearing.specs.Hearing.{hearOf}
+use Rattle.master.specs.Hearing.{hearOf}
 use Rattle.master.specs.declared.state.Master.{Master}
-use Rattle.master.specs.Answers.{Which, again}
 use Rattle.master.proofs.Ranges.{numbered, sendable-permits}
 use Rattle.conduct.specs.Master.Calls.{Call, offers, ticks, hears, callTime, outputOf, after, FirstSending, offered, polled}
 use Rattle.conduct.proofs.Master.Calls.{rejects, brings, Quiet, barred, idle, unheard, Ends, permitted, strange, Does, stays, begins, repeats, ends, givesUp, does}

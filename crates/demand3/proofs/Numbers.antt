@@ -10,11 +10,11 @@ use borrow.Author.Tests.{eqb-false, ne-eqb}
 use Rattle.records.specs.declared.records.Record.{Record}
 use Rattle.values.specs.Values.{permitsRecord}
 use Rattle.records.specs.Answers.{Fault, good, fails, firstFault}
-use Rattle.framing.specs.Frame.{frameChecks}
+use Rattle.reading.specs.Frame.{frameChecks}
 use Rattle.writing.specs.Writing.{telegramOf}
-use Rattle.roundtrips.proofs.Faults.{faultless-good}
-use Rattle.roundtrips.proofs.Frames.{framed-faultless}
-use Rattle.roundtrips.proofs.Written.{written-framed, written-number}
+use Rattle.writing.proofs.RoundTrips.Faults.{faultless-good}
+use Rattle.writing.proofs.RoundTrips.Frames.{framed-faultless}
+use Rattle.writing.proofs.RoundTrips.Written.{written-framed, written-number}
 use Rattle.clock.specs.Counters.{changedOf, numberIn}
 use Rattle.demand3.specs.Ours.{isFault, isRefused}
 use Rattle.protocol.specs.Rules.{Reading, bad, frame}

@@ -5,28 +5,28 @@ use Rattle.characters.specs.Characters.{inSet}
 use Rattle.characters.specs.Checksum.{total, checksumOf, checkText}
 use Rattle.forms.specs.Forms.{forms, onLine, lookIn, typeRow, formOf, dataType, slotsIn, countOf, slotsOf, widthIn, widthOf}
 use Rattle.records.specs.Records.{recordOf}
-use Rattle.lines.specs.Lines.{lineOf}
-use Rattle.packets.specs.Packets.{leadOf, isDecimal, permits, ruled, permitsNumber}
+use Rattle.forms.specs.Lines.{lineOf}
+use Rattle.values.specs.Packets.{leadOf, isDecimal, permits, ruled, permitsNumber}
 use Rattle.values.specs.Values.{permitsRecord, textOf, narrow, valueOf, numberWidth, permittedFrom, numberFits, permitted, permitsValue, permitsValues}
-use Rattle.framing.specs.Frame.{countText, summedOf, fieldOf, frameOf, frameChecks}
-use Rattle.framing.specs.Frame as f
-use Rattle.reading.specs.Field.{dataOf, outside, wrongLetter, badValue, valuesIn, misshapen, fieldChecks}
+use Rattle.reading.specs.Frame.{countText, summedOf, fieldOf, frameOf, frameChecks}
+use Rattle.reading.specs.Frame as f
+use Rattle.reading.specs.Contents.{dataOf, outside, wrongLetter, badValue, valuesIn, misshapen, fieldChecks}
 use Rattle.reading.specs.Reading.{recordIn, checks, readingOf}
 use Rattle.writing.specs.Writing.{telegramOf, sentOf}
 use Rattle.clock.specs.Clock.{runOut}
-use Rattle.deciding.specs.Deciding as r
-use Rattle.replying.specs.Fitting as u
-use Rattle.replying.specs.Replying as q
-use Rattle.replying.specs.Waiting as k
-use Rattle.masterrules.specs.Rules.{pollOf, isFailure, answersTo, permittedAnswer}
-use Rattle.masterrules.specs.Times.{reduces, operationFits, t0Of, operationAfter}
-use Rattle.judging.specs.Judging.{answeredBy, judgeOf}
+use Rattle.desk.specs.Deciding as r
+use Rattle.desk.specs.Fitting as u
+use Rattle.desk.specs.Replying as q
+use Rattle.desk.specs.Waiting as k
+use Rattle.master.specs.Rules.{pollOf, isFailure, answersTo, permittedAnswer}
+use Rattle.master.specs.Times.{reduces, operationFits, t0Of, operationAfter}
+use Rattle.master.specs.Answering.{answeredBy, judgeOf}
 use Rattle.master.specs.State.{sendable, fitsFree, inRanges, callFault, startOf}
 use Rattle.master.specs.Sending.{sendingOf, failedOf, offerFault, offerOf, pollingOf, waitingOf, tickOf}
-use Rattle.masterhearing.specs.Hearing.{hearOf}
+use Rattle.master.specs.Hearing.{hearOf}
 use Rattle.desk.specs.State as s
 use Rattle.desk.specs.Panel as p
-use Rattle.deskhearing.specs.Hearing as h
+use Rattle.desk.specs.Hearing as h
 use Rattle.demand3.specs.Runs.{Runs, AllowedRuns}
 
 computed : Runs × AllowedRuns

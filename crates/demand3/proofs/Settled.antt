@@ -14,15 +14,15 @@ use Rattle.records.specs.declared.records.Record.{Record}
 use Rattle.records.specs.Refusals.{No}
 use Rattle.records.specs.Answers.{Answer, accepted}
 use Rattle.records.specs.Answers as w
-use Rattle.framing.specs.Frame.{frameChecks}
+use Rattle.reading.specs.Frame.{frameChecks}
 use Rattle.reading.specs.Reading.{readingOf}
-use Rattle.roundtrips.proofs.Faults.{faultless-good}
-use Rattle.roundtrips.proofs.Frames.{framed-faultless}
-use Rattle.roundtrips.proofs.Checks.{accepted-only}
+use Rattle.writing.proofs.RoundTrips.Faults.{faultless-good}
+use Rattle.writing.proofs.RoundTrips.Frames.{framed-faultless}
+use Rattle.writing.proofs.RoundTrips.Checks.{accepted-only}
 use Rattle.clock.specs.Counters.{sameNumber, isNumber, numberIn}
-use Rattle.deciding.specs.Deciding.{What, contents, Ruling, silent, fault, repeat, handle, repeats, matterIn, goodFrame, badFrame, ruledBy, rulingIn}
-use Rattle.deciding.proofs.Numbers.{good-checked}
-use Rattle.deskhearing.specs.Hearing.{ruling}
+use Rattle.desk.specs.Deciding.{What, contents, Ruling, silent, fault, repeat, handle, repeats, matterIn, goodFrame, badFrame, ruledBy, rulingIn}
+use Rattle.desk.proofs.Numbers.{good-checked}
+use Rattle.desk.specs.Hearing.{ruling}
 use Rattle.desk.specs.declared.state.Desk.{Desk}
 use Rattle.protocol.specs.Rules.{frame}
 use Rattle.demand3.proofs.Numbers.{isOne, read, good-frame}

@@ -7,15 +7,15 @@ use Prim.Native.Char.{code}
 use native.Mathlib.Omega.{arith}
 use lib.ListN.{length, getD}
 use Rattle.laws.proofs.Truths.{clash}
-use Rattle.lines.specs.Lines.{isLine}
+use Rattle.forms.specs.Lines.{isLine}
 use Rattle.records.specs.Answers.{Fault, good, fails, firstFault, refused}
-use Rattle.framing.specs.Frame.{frameChecks}
-use Rattle.reading.specs.Field.{fieldChecks}
+use Rattle.reading.specs.Frame.{frameChecks}
+use Rattle.reading.specs.Contents.{fieldChecks}
 use Rattle.reading.specs.Reading.{recordIn, checks, readingOf}
 use Rattle.records.specs.declared.answers.Spot.{Spot}
 use Rattle.records.specs.declared.answers.Spot.the-variants.{Nowhere, At}
 use Rattle.records.specs.Refusals.{No, no}
-use Rattle.deciding.proofs.Numbers.{refusing}
+use Rattle.desk.proofs.Numbers.{refusing}
 use Rattle.demand3.specs.Ours.{isFault, isRefused}
 use Rattle.demand3.specs.Theorems.{SpoiltRefused, RefusedSpoilt}
 

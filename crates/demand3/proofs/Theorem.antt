@@ -3,7 +3,7 @@ use mathlib.Core.Path.{_≡_}
 use mathlib.Core.Bool.{true}
 use mathlib.Core.List.{List, []}
 use Prim.Native.Nat.{ℕ}
-use Rattle.lines.specs.Lines.{isLine}
+use Rattle.forms.specs.Lines.{isLine}
 use Rattle.protocol.specs.Demand.{NoLostInside}
 use Rattle.demand3.specs.Theorems.{Demand3, Reports}
 use Rattle.protocol.specs.Ends.{Ev, ran}

@@ -9,17 +9,17 @@ use Rattle.records.specs.Records.{typeOf}
 use Rattle.records.specs.declared.records.Record.{Record}
 use Rattle.records.specs.Answers.{Fault, firstFault, Answer, accepted}
 use Rattle.records.specs.Answers as w
-use Rattle.framing.specs.Frame.{frameChecks}
+use Rattle.reading.specs.Frame.{frameChecks}
 use Rattle.reading.specs.Reading.{readingOf}
 use Rattle.clock.specs.Clock.{runOut}
 use Rattle.clock.specs.Counters.{sameNumber, numberIn}
-use Rattle.masterrules.specs.Rules.{isFailure, permittedAnswer}
-use Rattle.judging.specs.Judging.{Judged, answeredBy, takenOf, unlessBad, judgeOf}
-use Rattle.judging.specs.Judging as j
+use Rattle.master.specs.Rules.{isFailure, permittedAnswer}
+use Rattle.master.specs.Answering.{Judged, answeredBy, takenOf, unlessBad, judgeOf}
+use Rattle.master.specs.Answering as j
 use Rattle.demand3.specs.Theorems.{Tells, Telling}
 use Rattle.master.specs.State.{isFree, callFault}
 use Rattle.master.specs.Sending.{Behind, t2Limit, unlessRefused, sendingOf, failedOf}
-use Rattle.masterhearing.specs.Hearing.{settledOf, judged, hearOf}
+use Rattle.master.specs.Hearing.{settledOf, judged, hearOf}
 use Rattle.master.specs.declared.state.Master.{Master}
 
 module _ (line : ℕ) (bytes : List ℕ) where

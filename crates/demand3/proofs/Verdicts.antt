@@ -7,7 +7,7 @@ use Prim.Native.Nat.{ℕ}
 use native.Mathlib.Omega.{arith}
 use lib.ListN.{length}
 use Rattle.laws.specs.Truth.{All}
-use Rattle.lines.specs.Lines.{isLine}
+use Rattle.forms.specs.Lines.{isLine}
 use Rattle.protocol.specs.History.{Tel, over, handled, again}
 use Rattle.protocol.specs.Demand.{NoLostInside, Promise, UpToLast, now, all, butLast}
 use Rattle.demand3.specs.Runs.{Run, Happens, keptRuns, place, poll, approved, lateSendingHistory, lateAnswerHistory}

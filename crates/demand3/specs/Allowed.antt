@@ -8,8 +8,7 @@ use Rattle.clock.specs.Clock.{elapsedOf, runOut}
 use Rattle.master.specs.State.{isFree}
 use Rattle.master.specs.Sending.{t2Limit}
 use Rattle.master.specs.declared.state.Master.{Master}
-use Rattle.protocol.specs.Ends.{Did, Line, Ev, Sys, nothing, first, resent, got, gave, empty, there, back, sys, step}
-use Rattle.protocol.specs.Ends.{offer, mtick, dtick, act, lost, whole, spoilt}
+use Rattle.protocol.specs.Ends.{Did, Line, Ev, Sys, nothing, first, resent, got, gave, empty, there, back, sys, step, offer, mtick, dtick, act, lost, whole, spoilt}
 use Rattle.demand3.specs.Ours.{ours, isRefused}
 
 -- the master waits on its newest sending: "until T2 has run out, the telegram ends or the next sending is made"

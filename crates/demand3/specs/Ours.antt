@@ -8,21 +8,20 @@ use Rattle.forms.specs.Forms.{byMaster, bySlave}
 use Rattle.records.specs.Records.{typeOf}
 use Rattle.records.specs.declared.records.Record.{Record}
 use Rattle.records.specs.Answers.{Fault, good, fails, firstFault, accepted}
-use Rattle.framing.specs.Frame.{frameChecks}
+use Rattle.reading.specs.Frame.{frameChecks}
 use Rattle.reading.specs.Reading.{readingOf}
-use Rattle.master.specs.Answers.{Told, refused, nothing, sent, answered, otherKind, givenUp, ignored}
+use Rattle.master.specs.Answers.{Told, refused, nothing, sent, answered, otherKind, givenUp, ignored, offered, again, poll}
 use Rattle.master.specs.Sending.{Behind, offerOf, tickOf}
-use Rattle.masterhearing.specs.Hearing.{hearOf}
+use Rattle.master.specs.Hearing.{hearOf}
 use Rattle.master.specs.declared.state.Master.{Master}
-use Rattle.master.specs.Answers.{offered, again, poll}
 use Rattle.master.specs.State as m
-use Rattle.deskhearing.specs.Hearing.{Hearing}
+use Rattle.desk.specs.Hearing.{Hearing}
 use Rattle.desk.specs.declared.state.Desk.{Desk}
 use Rattle.desk.specs.Answers as o
-use Rattle.deskhearing.specs.Answers as a
+use Rattle.desk.specs.Heard as a
 use Rattle.desk.specs.State as s
 use Rattle.desk.specs.Panel as p
-use Rattle.deskhearing.specs.Hearing as h
+use Rattle.desk.specs.Hearing as h
 use Rattle.protocol.specs.Ends.{Did, Said, MOut, DNote, DOut, Ends, first, resent, got, gave, silent, says, handles}
 use Rattle.protocol.specs.Ends as e
 

@@ -3,14 +3,14 @@ use mathlib.Core.Path.{_≡_}
 use mathlib.Core.Bool.{true}
 use mathlib.Core.List.{List, []}
 use Prim.Native.Nat.{ℕ, _≤_}
-use Rattle.lines.specs.Lines.{isLine}
+use Rattle.forms.specs.Lines.{isLine}
 use Rattle.records.specs.Refusals.{No}
 use Rattle.records.specs.Answers.{Answer, accepted}
 use Rattle.records.specs.Answers as w
 use Rattle.reading.specs.Reading.{readingOf}
 use Rattle.master.specs.Answers.{Told, nothing, sent, answered, otherKind, givenUp, ignored}
 use Rattle.master.specs.Answers as t
-use Rattle.masterhearing.specs.Hearing.{hearOf}
+use Rattle.master.specs.Hearing.{hearOf}
 use Rattle.master.specs.declared.state.Master.{Master}
 use Rattle.protocol.specs.Demand.{NoLostInside, Promise, Reported, Spoken}
 use Rattle.protocol.specs.Ends.{Ev, ran}

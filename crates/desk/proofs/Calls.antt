@@ -11,7 +11,7 @@ use Rattle.records.specs.declared.records.Record.{Record}
 use Rattle.values.specs.Values.{permitsRecord}
 use Rattle.records.specs.Answers.{good, fails}
 use Rattle.desk.specs.Answers.{done, lost, refused}
-use Rattle.lines.specs.Lines.{lineOf, isKey}
+use Rattle.forms.specs.Lines.{lineOf, isKey}
 use Rattle.desk.specs.State.{inRanges}
 use Rattle.desk.specs.Panel.{losesLine, notedOf, withQueued, withRequested, withKey, recordFault, keyFault, tickOf, queueOf, setOf, keyOf}
 use Rattle.desk.specs.declared.state.Desk.{Desk}

@@ -9,13 +9,13 @@ use borrow.Author.Tests.{le-leb, lt-leb, leb-true, eqb-true}
 use Rattle.laws.specs.Truth.{from, every}
 use Rattle.laws.proofs.Truths.{both-left, both-right, both-true}
 use Rattle.laws.proofs.Passes.{both-off, on-test, on-cond, from-bounds}
-use Rattle.lines.specs.Lines.{isLine}
+use Rattle.forms.specs.Lines.{isLine}
 use Rattle.clock.specs.Counters.{inRange}
 use Rattle.characters.specs.Marks.{shortest, longest}
 use Rattle.desk.specs.declared.state.Desk.{Desk}
 use Rattle.desk.specs.Panel.{notedOf}
-use Rattle.replying.specs.Fitting.{keyFits, wantedFits}
-use Rattle.replying.specs.Waiting.{waitingFits, keptFits}
+use Rattle.desk.specs.Fitting.{keyFits, wantedFits}
+use Rattle.desk.specs.Waiting.{waitingFits, keptFits}
 use Rattle.desk.specs.State.{numbersFit, recordsFit, inRanges}
 
 pub bad-line : (d : Desk) → isLine (d .line) ≡ false → false ≡ numbersFit d

@@ -1,3 +1,10 @@
+pub mod Deciding
+pub mod Fitting
+pub mod Replying
+pub mod Waiting
 pub mod Answers
 pub mod State
 pub mod Panel
+pub mod Queue
+pub mod Heard
+pub mod Hearing

@@ -12,11 +12,11 @@ use Rattle.values.specs.Values.{permitsRecord}
 use Rattle.clock.specs.Clock.{runOut}
 use Rattle.records.specs.Answers.{Fault, good, fails}
 use Rattle.records.specs.Refusals.{no}
-use Rattle.lines.specs.Lines.{lineOf, isKey}
-use Rattle.replying.specs.declared.replying.Wanted.the-variants.{Is}
+use Rattle.forms.specs.Lines.{lineOf, isKey}
+use Rattle.desk.specs.declared.replying.Wanted.the-variants.{Is}
 use Rattle.desk.specs.Answers.{Done, done, lost, refused}
 use Rattle.desk.specs.State.{inRanges}
-use Rattle.replying.specs.declared.waiting.Waiting.{Waiting}
+use Rattle.desk.specs.declared.waiting.Waiting.{Waiting}
 use Rattle.desk.specs.declared.state.Desk.{Desk}
 
 -- T1 is 28,000

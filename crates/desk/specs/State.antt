@@ -6,13 +6,13 @@ use mathlib.Core.Bool.{Bool, false, cond}
 use lib.Dec.{leb}
 use lib.ListN.{take, replicate}
 use Rattle.laws.specs.Truth.{both, every}
-use Rattle.lines.specs.Lines.{isLine}
+use Rattle.forms.specs.Lines.{isLine}
 use Rattle.clock.specs.Counters.{inRange}
 use Rattle.characters.specs.Marks.{longest}
 use Rattle.records.specs.Refusals.{no}
-use Rattle.replying.specs.Fitting.{keyFits, wantedFits}
-use Rattle.replying.specs.Waiting.{waitingFits, keptFits, blank}
-use Rattle.replying.specs.declared.replying.Wanted.the-variants.{None}
+use Rattle.desk.specs.Fitting.{keyFits, wantedFits}
+use Rattle.desk.specs.Waiting.{waitingFits, keptFits, blank}
+use Rattle.desk.specs.declared.replying.Wanted.the-variants.{None}
 use Rattle.desk.specs.Answers.{Done, done, refused}
 use Rattle.desk.specs.declared.state.Desk.{Desk}
 

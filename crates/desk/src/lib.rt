@@ -1,4 +1,12 @@
-// The desk, the slave's end of a line (rules D1 to D4): a state by value, and what each call that hears nothing makes of it.
+// The desk, the slave's end of a line (rules D1 to D16).
 pub mod answers;
+pub mod applying;
+pub mod deciding;
+pub mod fitting;
+pub mod heard;
+pub mod hearing;
 pub mod panel;
+pub mod queue;
+pub mod replying;
 pub mod state;
+pub mod waiting;

@@ -3,18 +3,18 @@ ghost use mathlib.Core.Path.{_≡_};
 ghost use Rattle.desk.specs.Answers.{doneOf};
 ghost use Rattle.desk.specs.State.{numbersFit, recordsFit, inRanges, fresh, startOf};
 use crate::answers::Outcome;
+use crate::fitting::key_fits;
+use crate::fitting::may_reply;
+use crate::fitting::wanted_fits;
+pub use crate::replying::Wanted;
+pub use crate::waiting::Waiting;
+use crate::waiting::kept_fits;
+use crate::waiting::queue_fits;
 use characters::marks::LONGEST;
 use clock::counters::LastTaken;
-use lines::lines::is_line;
+use forms::lines::is_line;
 use records::records::Record;
 use records::refusals::Refusal;
-use replying::fitting::key_fits;
-use replying::fitting::may_reply;
-use replying::fitting::wanted_fits;
-pub use replying::replying::Wanted;
-pub use replying::waiting::Waiting;
-use replying::waiting::kept_fits;
-use replying::waiting::queue_fits;
 
 // Its line; whether the line is good; the last number taken; T1's start; the stored answer's length and bytes; the record set for r;
 // the queue's count and places, the oldest first; the key position.

@@ -9,9 +9,9 @@ use borrow.Author.Tests.{eqb-true, eq-eqb}
 use Rattle.laws.specs.Truth.{every, All}
 use Rattle.laws.proofs.Truths.{clash, both-left, both-right, both-true}
 use Rattle.laws.proofs.Passes.{on-test, from-passes}
-use Rattle.lines.specs.Lines.{lines, lineNumbers, isLine}
+use Rattle.forms.specs.Lines.{lines, lineNumbers, isLine}
 use Rattle.forms.specs.Forms.{forms, onLine, ofType, ofLetter, firstLetter, lookIn, typeRow, formOf}
-use Rattle.formrows.specs.declared.rows.Form.{Form}
+use Rattle.forms.specs.declared.rows.Form.{Form}
 
 -- what holds of each line's number holds of every line that there is
 pub each-line : (test : ℕ → Bool) → every test lineNumbers ≡ true → (line : ℕ) → isLine line ≡ true → test line ≡ true

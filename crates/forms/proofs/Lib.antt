@@ -1,3 +1,3 @@
-pub mod Rows
+pub mod RowsOf
 pub mod Found
 pub mod Slots

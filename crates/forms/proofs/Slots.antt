@@ -9,7 +9,7 @@ use lib.Seq.{drop-drop}
 use borrow.Author.Tests.{ltb-false}
 use Rattle.laws.proofs.Passes.{on-test}
 use Rattle.forms.specs.Forms.{slotsIn, countOf, widthIn}
-use Rattle.formrows.specs.declared.rows.Form.{Form}
+use Rattle.forms.specs.declared.rows.Form.{Form}
 use Rattle.characters.proofs.Parts.{part-first}
 
 -- a form has at most ten packets

@@ -6,13 +6,13 @@ use mathlib.Core.Bool.{Bool, true, false, cond, not}
 use lib.Dec.{eqb, ltb}
 use lib.ListN.{getD, drop}
 use Rattle.laws.specs.Truth.{both, pad}
-use Rattle.formrows.specs.declared.rows.Form.{Form}
-unfoldable pub use Rattle.formrows.specs.Rows.{forms}
+use Rattle.forms.specs.declared.rows.Form.{Form}
+unfoldable pub use Rattle.forms.specs.Rows.{forms}
 use Rattle.forms.specs.declared.table.Looked.{Looked}
 use Rattle.forms.specs.declared.table.Sought.{Sought}
 use Rattle.forms.specs.declared.table.Sought.the-variants.{Kind, Letter, Data}
-use Rattle.lines.specs.declared.lines.Line.{Line}
-use Rattle.lines.specs.Lines.{lines, isLine}
+use Rattle.forms.specs.declared.lines.Line.{Line}
+use Rattle.forms.specs.Lines.{lines, isLine}
 
 -- what stands for a row where none was found
 abbrev pub none : Form

@@ -1,14 +1,14 @@
 // What the telegram forms say of a line (rules L1 to L19).
 ghost use mathlib.Core.Path.{_≡_};
 ghost use Prim.Native.Nat.{_≤_};
-ghost use Rattle.formrows.specs.Rows.{forms};
+ghost use Rattle.forms.specs.Rows.{forms};
 ghost use Rattle.forms.specs.Forms.{onLine, ofType, ofLetter, isData, testOf, lookIn, formOf, byMaster, bySlave, dataType, countOf, widthOf};
+use crate::lines::LINE_COUNT;
+use crate::lines::is_line;
+use crate::rows::Form;
+use crate::rows::ROW_COUNT;
+use crate::rows::rows;
 use characters::slices::wide;
-use formrows::rows::Form;
-use formrows::rows::ROW_COUNT;
-use formrows::rows::rows;
-use lines::lines::LINE_COUNT;
-use lines::lines::is_line;
 
 // A row that was looked for.
 pub struct Looked {

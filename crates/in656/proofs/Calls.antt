@@ -8,13 +8,13 @@ use Rattle.records.specs.Answers.{Outcome, Write}
 use Rattle.master.specs.declared.state.Master.{Master}
 use Rattle.master.specs.Answers as m
 use Rattle.master.specs.Sending.{Behind}
-use Rattle.masterhearing.specs.Hearing as mh
+use Rattle.master.specs.Hearing as mh
 use Rattle.blocks.specs.Record.{recordLength}
-use Rattle.masterstates.specs.Masters as ms
-use Rattle.results.specs.declared.result.In656Result.{In656Result}
-use Rattle.results.specs.Result.{Call}
-use Rattle.results.specs.Telegrams.{writeResult}
-use Rattle.results.specs.Masters.{toldResult}
+use Rattle.blocks.specs.Masters as ms
+use Rattle.in656.specs.declared.results.result.In656Result.{In656Result}
+use Rattle.in656.specs.Results.Result.{Call}
+use Rattle.in656.specs.Results.Telegrams.{writeResult}
+use Rattle.in656.specs.Results.Masters.{toldResult}
 use Rattle.in656.specs.Telegrams.{wrote}
 use Rattle.in656.specs.Masters as master
 

@@ -5,12 +5,11 @@ use mathlib.Core.List.{List}
 use lib.Dec.{eqb}
 use lib.ListN.{length}
 use Rattle.records.specs.Refusals.{no}
-use Rattle.gathering.specs.Gather.{Cut, atStart}
-use Rattle.gathering.specs.declared.gather.Item.the-variants.{Byte, Hit}
-use Rattle.gathererstates.specs.Gatherers.{gathererLength, saveOf, gatherIn}
-use Rattle.results.specs.Result.{zeros, refusing}
-use Rattle.results.specs.Telegrams.{cutResult}
-use Rattle.results.specs.Result.{Call}
+use Rattle.cutting.specs.Gather.{Cut, atStart}
+use Rattle.cutting.specs.declared.gather.Item.the-variants.{Byte, Hit}
+use Rattle.blocks.specs.Gatherers.{gathererLength, saveOf, gatherIn}
+use Rattle.in656.specs.Results.Result.{zeros, refusing, Call}
+use Rattle.in656.specs.Results.Telegrams.{cutResult}
 
 -- 15 where the state has another length
 unfoldable pub gathererStart : List ℕ → Call

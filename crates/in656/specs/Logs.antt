@@ -10,9 +10,9 @@ use Rattle.logs.specs.declared.marks.Marked.the-variants.{Is, Unknown}
 use Rattle.logs.specs.Records.{logRecord}
 use Rattle.logs.specs.Reader.{recordAt}
 use Rattle.logs.specs.Writer.{writeOf}
-use Rattle.results.specs.declared.result.In656Result.{In656Result}
-use Rattle.results.specs.Result.{Call, refusing}
-use Rattle.results.specs.Logs.{markNumber, foundResult}
+use Rattle.in656.specs.declared.results.result.In656Result.{In656Result}
+use Rattle.in656.specs.Results.Result.{Call, refusing}
+use Rattle.in656.specs.Results.Logs.{markNumber, foundResult}
 use Rattle.in656.specs.Telegrams.{wrote}
 
 -- the mark of a number; a number of no mark is unknown

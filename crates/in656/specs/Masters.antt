@@ -8,14 +8,14 @@ use Rattle.master.specs.declared.state.Master.{Master}
 use Rattle.master.specs.Answers.{Told, refused, nothing, sent, answered, otherKind, givenUp, ignored}
 use Rattle.master.specs.State.{startOf}
 use Rattle.master.specs.Sending.{Behind, offerOf, tickOf}
-use Rattle.masterhearing.specs.Hearing.{hearOf}
+use Rattle.master.specs.Hearing.{hearOf}
 use Rattle.blocks.specs.Layout.{filled}
 use Rattle.blocks.specs.Record.{recordLength, recordBytes}
-use Rattle.masterstates.specs.Masters.{masterLength, loadOf, saveOf}
-use Rattle.results.specs.declared.result.In656Result.{In656Result}
-use Rattle.results.specs.Result.{Call}
-use Rattle.results.specs.Masters.{toldResult}
-use Rattle.inputs.specs.Numbers.{lineFor, recordMeant}
+use Rattle.blocks.specs.Masters.{masterLength, loadOf, saveOf}
+use Rattle.in656.specs.declared.results.result.In656Result.{In656Result}
+use Rattle.in656.specs.Results.Result.{Call}
+use Rattle.in656.specs.Results.Masters.{toldResult}
+use Rattle.in656.specs.Inputs.{lineFor, recordMeant}
 use Rattle.in656.specs.Telegrams.{filledBy}
 
 -- the bytes of a state behind a call: those of the new state, or as they were where it is refused

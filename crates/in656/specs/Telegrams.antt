@@ -5,17 +5,17 @@ use mathlib.Core.List.{List}
 use lib.Dec.{eqb}
 use lib.ListN.{length}
 use Rattle.records.specs.Refusals.{no}
-use Rattle.lines.specs.Lines.{isLine}
+use Rattle.forms.specs.Lines.{isLine}
 use Rattle.records.specs.Answers.{Answer, accepted, refused, Write}
 use Rattle.reading.specs.Reading.{readingOf}
 use Rattle.writing.specs.Writing.{writingOf}
-use Rattle.searching.specs.Search.{spanOf}
+use Rattle.cutting.specs.Search.{spanOf}
 use Rattle.blocks.specs.Layout.{filled}
 use Rattle.blocks.specs.Record.{recordLength, recordBytes, recordIn}
-use Rattle.results.specs.declared.result.In656Result.{In656Result}
-use Rattle.results.specs.Result.{Call, refusing}
-use Rattle.results.specs.Telegrams.{readResult, writeResult, spanResult}
-use Rattle.inputs.specs.Numbers.{lineIn, numberIn, typed, recordMeant}
+use Rattle.in656.specs.declared.results.result.In656Result.{In656Result}
+use Rattle.in656.specs.Results.Result.{Call, refusing}
+use Rattle.in656.specs.Results.Telegrams.{readResult, writeResult, spanResult}
+use Rattle.in656.specs.Inputs.{lineIn, numberIn, typed, recordMeant}
 
 -- the record block behind a reading: filled by its record, or as it was
 abbrev pub filledBy : Answer → List ℕ → List ℕ

@@ -1,16 +1,16 @@
 // Gathering on a state of bytes.
 ghost use mathlib.Core.Path.{_≡_};
 ghost use Rattle.in656.specs.Gatherers.{gathererStart, gathererByte, gathererHit};
-use gathererstates::gatherers::GATHERER_LENGTH;
-use gathererstates::gatherers::gather_byte;
-use gathererstates::gatherers::gather_hit;
-use gathererstates::gatherers::save;
-use gathering::gather::Gatherer;
+use crate::results::result::In656Result;
+use crate::results::result::done;
+use crate::results::result::refuse;
+use crate::results::telegrams::of_gathered;
+use blocks::gatherers::GATHERER_LENGTH;
+use blocks::gatherers::gather_byte;
+use blocks::gatherers::gather_hit;
+use blocks::gatherers::save;
+use cutting::gather::Gatherer;
 use records::refusals::Refusal;
-use results::result::In656Result;
-use results::result::done;
-use results::result::refuse;
-use results::telegrams::of_gathered;
 
 #[no_mangle]
 pub extern "C" fn in656_gatherer_start(state: &mut [u8]) -> In656Result

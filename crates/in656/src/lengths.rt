@@ -2,15 +2,15 @@
 ghost use mathlib.Core.Path.{_≡_};
 ghost use Rattle.characters.specs.Marks.{longest};
 ghost use Rattle.blocks.specs.Record.{recordLength};
-ghost use Rattle.gathererstates.specs.Gatherers.{gathererLength};
-ghost use Rattle.deskstates.specs.Desks.{deskLength};
-ghost use Rattle.masterstates.specs.Masters.{masterLength};
-ghost use Rattle.results.specs.Result.{resultSize};
+ghost use Rattle.blocks.specs.Gatherers.{gathererLength};
+ghost use Rattle.blocks.specs.Desks.{deskLength};
+ghost use Rattle.blocks.specs.Masters.{masterLength};
+ghost use Rattle.in656.specs.Results.Result.{resultSize};
+use blocks::desks::DESK_LENGTH;
+use blocks::gatherers::GATHERER_LENGTH;
+use blocks::masters::MASTER_LENGTH;
 use blocks::record::RECORD_LENGTH;
 use characters::marks::LONGEST;
-use deskstates::desks::DESK_LENGTH;
-use gathererstates::gatherers::GATHERER_LENGTH;
-use masterstates::masters::MASTER_LENGTH;
 
 // How many bytes a result has: eight fields of four and two of eight.
 const RESULT_SIZE: usize = 48;

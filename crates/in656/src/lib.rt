@@ -1,7 +1,10 @@
 // The C face (include/in656.h): the exported functions, on numbers and lent bytes.
+pub mod deskcalls;
 pub mod desks;
 pub mod gatherers;
+pub mod inputs;
 pub mod lengths;
 pub mod log;
 pub mod masters;
+pub mod results;
 pub mod telegrams;

@@ -1,18 +1,18 @@
 // Reading and writing a log record.
 ghost use mathlib.Core.Path.{_≡_};
 ghost use Rattle.in656.specs.Logs.{markIn, logReadCall, logWriteCall};
+use crate::results::log::HIT;
+use crate::results::log::MASTER;
+use crate::results::log::SLAVE;
+use crate::results::log::of_next;
+use crate::results::result::In656Result;
+use crate::results::result::refuse;
+use crate::results::telegrams::of_writing;
 use logs::marks::Mark;
 use logs::marks::Marked;
 use logs::reader::next_record;
 use logs::writer::write_record;
 use records::refusals::Refusal;
-use results::log::HIT;
-use results::log::MASTER;
-use results::log::SLAVE;
-use results::log::of_next;
-use results::result::In656Result;
-use results::result::refuse;
-use results::telegrams::of_writing;
 
 // The mark of a number.
 fn mark_in(number: u32) -> Marked

@@ -2,20 +2,20 @@
 ghost use mathlib.Core.Path.{_≡_};
 ghost use Rattle.master.specs.Answers.{toldOf};
 ghost use Rattle.in656.specs.Masters.{stepped, masterStart, masterOffer, masterTick, answerBlock, masterHear};
+use crate::inputs::line_for;
+use crate::inputs::meaning;
+use crate::results::masters::of_answer;
+use crate::results::result::In656Result;
 use crate::telegrams::fill;
+use blocks::masters::MASTER_LENGTH;
+use blocks::masters::load;
+use blocks::masters::save;
 use blocks::record::RECORD_LENGTH;
 use blocks::record::put_record;
-use inputs::numbers::line_for;
-use inputs::numbers::meaning;
 use master::answers::Answer;
+use master::hearing::hear;
 use master::state::Master;
 use master::state::Step;
-use masterhearing::hearing::hear;
-use masterstates::masters::MASTER_LENGTH;
-use masterstates::masters::load;
-use masterstates::masters::save;
-use results::masters::of_answer;
-use results::result::In656Result;
 
 // The state behind a call is saved where it is not refused.
 fn close(step: Step, state: &mut [u8]) -> In656Result

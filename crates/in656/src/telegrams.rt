@@ -2,21 +2,21 @@
 ghost use mathlib.Core.Path.{_≡_};
 ghost use Rattle.records.specs.Answers.{answerOf};
 ghost use Rattle.in656.specs.Telegrams.{filledBy, readCall, writeCall, nextCall};
+use crate::inputs::byte_or;
+use crate::inputs::is_typed;
+use crate::inputs::meaning;
+use crate::results::result::In656Result;
+use crate::results::result::refuse;
+use crate::results::telegrams::of_reading;
+use crate::results::telegrams::of_span;
+use crate::results::telegrams::of_writing;
 use blocks::record::RECORD_LENGTH;
 use blocks::record::put_record;
-use inputs::numbers::byte_or;
-use inputs::numbers::is_typed;
-use inputs::numbers::meaning;
-use lines::lines::is_line;
+use cutting::search::span_of;
+use forms::lines::is_line;
 use reading::reading::read;
 use records::answers::Reading;
 use records::refusals::Refusal;
-use results::result::In656Result;
-use results::result::refuse;
-use results::telegrams::of_reading;
-use results::telegrams::of_span;
-use results::telegrams::of_writing;
-use searching::search::span_of;
 use writing::writing::write;
 
 // The record of a reading fills the block.

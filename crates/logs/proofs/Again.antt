@@ -10,8 +10,8 @@ use lib.Seq.{take-append-seam, drop-append-seam, drop-drop, take-add, length-tak
 use borrow.Author.Tests.{eqb-true}
 use Rattle.laws.specs.Truth.{All}
 use Rattle.laws.proofs.Passes.{on-test}
-use Rattle.blocks.specs.Numbers.{fourBytes, fourSaid}
-use Rattle.blocks.proofs.Fours.{spelt, four-back}
+use Rattle.text.specs.Fours.{fourBytes, fourSaid}
+use Rattle.text.proofs.FourBytes.{spelt, four-back}
 use Rattle.logs.specs.declared.marks.Mark.{Mark}
 use Rattle.logs.specs.declared.marks.Mark.the-variants.{Master, Slave, Hit}
 use Rattle.logs.specs.declared.marks.Marked.{Marked}

@@ -8,7 +8,7 @@ use lib.ListN.{length, take, drop, getD, length-drop}
 use lib.Seq.{take-all}
 use borrow.Author.Tests.{lt-ltb, le-ltb, ne-eqb}
 use Rattle.records.specs.Refusals.{no}
-use Rattle.blocks.specs.Numbers.{fourSaid}
+use Rattle.text.specs.Fours.{fourSaid}
 use Rattle.logs.specs.declared.marks.Mark.{Mark}
 use Rattle.logs.specs.declared.marks.Marked.{Marked}
 use Rattle.logs.specs.Marks.{markOf, mayHave}

@@ -12,7 +12,7 @@ use Rattle.records.specs.Refusals.{No}
 use Rattle.laws.proofs.Passes.{on-test}
 use Rattle.laws.proofs.Truths.{clash}
 use Rattle.characters.specs.Marks.{longest}
-use Rattle.blocks.specs.Numbers.{fourSaid}
+use Rattle.text.specs.Fours.{fourSaid}
 use Rattle.logs.specs.declared.marks.Mark.{Mark}
 use Rattle.logs.specs.declared.marks.Mark.the-variants.{Master, Slave, Hit}
 use Rattle.logs.specs.declared.marks.Marked.{Marked}

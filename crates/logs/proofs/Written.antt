@@ -11,7 +11,7 @@ use Rattle.records.specs.Refusals.{no}
 use Rattle.records.specs.Answers.{Outcome, written, refused}
 use Rattle.text.specs.Putting.{puts, placed}
 use Rattle.text.proofs.Puts.{with-room}
-use Rattle.blocks.proofs.Fours.{four-length}
+use Rattle.text.proofs.FourBytes.{four-length}
 use Rattle.logs.specs.declared.marks.Mark.{Mark}
 use Rattle.logs.specs.declared.marks.Mark.the-variants.{Master, Slave, Hit}
 use Rattle.logs.specs.Marks.{markBytes, mayHave}

@@ -7,7 +7,7 @@ use lib.Dec.{eqb}
 use lib.ListN.{length, take, drop, getD}
 use Rattle.records.specs.Refusals.{no}
 use Rattle.characters.specs.Marks.{longest}
-use Rattle.blocks.specs.Numbers.{fourSaid}
+use Rattle.text.specs.Fours.{fourSaid}
 use Rattle.logs.specs.declared.marks.Mark.{Mark}
 use Rattle.logs.specs.declared.marks.Marked.the-variants.{Is}
 use Rattle.logs.specs.Marks.{markOf, mayHave}

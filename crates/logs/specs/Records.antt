@@ -4,7 +4,7 @@ use mathlib.Core.Bool.{true}
 use mathlib.Core.List.{List, _∷_, _++_}
 use Prim.Native.Nat.{ℕ, _<_, _^_}
 use lib.ListN.{length}
-use Rattle.blocks.specs.Numbers.{fourBytes}
+use Rattle.text.specs.Fours.{fourBytes}
 use Rattle.logs.specs.declared.marks.Mark.{Mark}
 use Rattle.logs.specs.Marks.{markBytes, mayHave}
 

@@ -7,12 +7,12 @@ use crate::marks::Mark;
 use crate::marks::Marked;
 use crate::marks::mark_of;
 use crate::marks::may_have;
-use blocks::numbers::four_said;
 use characters::slices::byte_at;
 use characters::slices::less;
 use characters::slices::part;
 use characters::slices::wide;
 use records::refusals::Refusal;
+use text::fours::four_said;
 
 // Mark, time and length before a record's bytes.
 pub const HEAD: usize = 7;

@@ -10,9 +10,9 @@ use crate::marks::Mark;
 use crate::marks::mark_bytes;
 use crate::marks::may_have;
 use crate::reader::HEAD;
-use blocks::numbers::put_four;
 use records::answers::Writing;
 use records::refusals::Refusal;
+use text::fours::put_four;
 use text::putting::put_byte;
 use text::putting::put_text;
 

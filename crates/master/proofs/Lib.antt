@@ -1,2 +1,6 @@
+pub mod Types
+pub mod Positions
+pub mod Verdicts
 pub mod Ranges
 pub mod Sends
+pub mod Hears

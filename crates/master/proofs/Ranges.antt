@@ -8,20 +8,20 @@ use borrow.Author.Tests.{lt-ltb, le-ltb, eq-eqb, ne-eqb, ltb-true, ltb-false}
 use Rattle.laws.specs.Truth.{both}
 use Rattle.laws.proofs.Truths.{both-left, both-right, both-true}
 use Rattle.laws.specs.Numerals.{numeralOn, leftOf}
-use Rattle.lines.specs.Lines.{isLine, lineOf}
+use Rattle.forms.specs.Lines.{isLine, lineOf}
 use Rattle.forms.specs.Forms.{byMaster, forms, onLine, lookIn, typeRow, formOf, dataType, slotsIn, countOf, slotsOf}
 use Rattle.records.specs.Refusals.{No, no}
 use Rattle.records.specs.Records.{typeOf}
 use Rattle.characters.specs.Characters.{inSet}
 use Rattle.records.specs.declared.records.Record.{Record}
 use Rattle.forms.proofs.Found.{each-line}
-use Rattle.packets.specs.Packets.{leadOf, isDecimal, permits, ruled, permitsNumber}
+use Rattle.values.specs.Packets.{leadOf, isDecimal, permits, ruled, permitsNumber}
 use Rattle.values.specs.Values.{permitsRecord, textOf, narrow, numberWidth, permittedFrom, numberFits, permitsValue, permitsValues}
 use Rattle.records.specs.Answers.{good, fails}
 use Rattle.clock.specs.Counters.{inRange}
 use Rattle.characters.specs.Marks.{longest}
-use Rattle.masterrules.specs.Rules.{pollOf}
-use Rattle.masterrules.specs.Times.{operationFits}
+use Rattle.master.specs.Rules.{pollOf}
+use Rattle.master.specs.Times.{operationFits}
 use Rattle.master.specs.declared.state.Master.{Master}
 use Rattle.master.specs.Answers.{refused, nothing}
 use Rattle.master.specs.State.{isFree, sendable, fitsFree, inRanges, callFault, withLine, started, unstarted, startOf}

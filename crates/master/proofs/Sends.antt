@@ -13,10 +13,10 @@ use Rattle.records.specs.declared.refusals.Refusal.{Refusal}
 use Rattle.values.specs.Values.{permitsRecord}
 use Rattle.records.specs.Answers.{good, fails}
 use Rattle.writing.specs.Writing.{sendOf}
-use Rattle.roundtrips.proofs.Trips.{sent-whole}
+use Rattle.writing.proofs.Trips.{sent-whole}
 use Rattle.clock.specs.Clock.{runOut}
 use Rattle.characters.specs.Marks.{longest}
-use Rattle.masterrules.specs.Rules.{pollOf}
+use Rattle.master.specs.Rules.{pollOf}
 use Rattle.master.specs.declared.state.Master.{Master}
 use Rattle.master.specs.declared.state.Step.{Step}
 use Rattle.master.specs.Answers.{Which, offered, again, poll, Ground, silence, toldOf, nothing, sent, givenUp}

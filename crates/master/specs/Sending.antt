@@ -12,8 +12,8 @@ use Rattle.values.specs.Values.{permitsRecord}
 use Rattle.records.specs.Answers.{Fault, good, fails}
 use Rattle.writing.specs.Writing.{telegramOf, sentOf}
 use Rattle.clock.specs.Clock.{runOut}
-use Rattle.masterrules.specs.Rules.{pollOf}
-use Rattle.masterrules.specs.Times.{t0Of}
+use Rattle.master.specs.Rules.{pollOf}
+use Rattle.master.specs.Times.{t0Of}
 use Rattle.master.specs.declared.state.Master.{Master}
 use Rattle.master.specs.Answers.{Which, offered, again, poll, Ground, silence, Told, refused, nothing, sent, givenUp}
 use Rattle.master.specs.State.{isFree, callFault, afterSending, withLine, givenUpState}

@@ -4,7 +4,7 @@ use Prim.Native.Char.{code}
 use mathlib.Core.Bool.{Bool, true, false, cond}
 use lib.Dec.{ltb, eqb}
 use Rattle.laws.specs.Truth.{both, either}
-use Rattle.lines.specs.Lines.{isLine}
+use Rattle.forms.specs.Lines.{isLine}
 use Rattle.forms.specs.Forms.{byMaster}
 use Rattle.records.specs.Refusals.{no}
 use Rattle.records.specs.Records.{typeOf}
@@ -14,7 +14,7 @@ use Rattle.values.specs.Values.{permitsRecord}
 use Rattle.records.specs.Answers.{Fault, good, fails}
 use Rattle.characters.specs.Marks.{longest}
 use Rattle.clock.specs.Counters.{inRange, changedOf}
-use Rattle.masterrules.specs.Times.{operationFits, operationAfter}
+use Rattle.master.specs.Times.{operationFits, operationAfter}
 use Rattle.clock.specs.declared.counters.ToSend.{ToSend}
 use Rattle.master.specs.declared.state.Master.{Master}
 use Rattle.master.specs.Answers.{Told, refused, nothing}

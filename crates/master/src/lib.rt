@@ -1,4 +1,8 @@
-// The master of a line, the bench (rules M1 to M7): a state by value, and what it sends.
+// The master's end of a line, the bench (rules M1 to M18).
+pub mod answering;
 pub mod answers;
+pub mod hearing;
+pub mod rules;
 pub mod sending;
 pub mod state;
+pub mod times;

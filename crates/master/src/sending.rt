@@ -12,13 +12,13 @@ ghost use Rattle.master.specs.Sending.{sendingOf, failedOf, failOf, offe
 use crate::answers::Answer;
 use crate::answers::Cause;
 use crate::answers::Sending;
+use crate::rules::poll_of;
 use crate::state::Master;
 use crate::state::Step;
+use crate::times::t0_of;
 use clock::clock::run_out;
 use clock::counters::ToSend;
 use forms::table::by_master;
-use masterrules::rules::poll_of;
-use masterrules::times::t0_of;
 use records::answers::Check;
 use records::records::Record;
 use records::records::type_of;

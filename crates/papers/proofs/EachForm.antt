@@ -4,12 +4,12 @@ use Rattle.laws.specs.Numerals.{numeralOn, numberOn}
 use Rattle.characters.specs.Characters.{inSet}
 use Rattle.characters.specs.Checksum.{total, checksumOf, checkText}
 use Rattle.records.specs.Records.{recordOf}
-use Rattle.lines.specs.Lines.{lineOf}
+use Rattle.forms.specs.Lines.{lineOf}
 use Rattle.forms.specs.Forms.{forms, onLine, lookIn, formOf, dataType, slotsIn, countOf, slotsOf, widthIn, widthOf, typeRow}
-use Rattle.packets.specs.Packets.{leadOf, isDecimal, permits, ruled, permitsNumber}
+use Rattle.values.specs.Packets.{leadOf, isDecimal, permits, ruled, permitsNumber}
 use Rattle.values.specs.Values.{valueOf, permittedFrom, permitted, narrow, numberFits}
-use Rattle.framing.specs.Frame.{countText, summedOf, fieldOf, frameChecks}
-use Rattle.reading.specs.Field.{outside, wrongLetter, badValue, valuesIn, misshapen, fieldChecks}
+use Rattle.reading.specs.Frame.{countText, summedOf, fieldOf, frameChecks}
+use Rattle.reading.specs.Contents.{outside, wrongLetter, badValue, valuesIn, misshapen, fieldChecks}
 use Rattle.reading.specs.Reading.{recordIn, checks, readingOf}
 use Rattle.papers.specs.EachForm.{SamplesRead, EachSampled}
 

@@ -13,22 +13,21 @@ use Rattle.records.specs.Refusals.{No, no}
 use Rattle.laws.proofs.Truths.{clash}
 use Rattle.laws.proofs.Passes.{on-test, order, every-all}
 use Rattle.characters.specs.Characters.{inSet}
-use Rattle.lines.specs.Lines.{isLine}
+use Rattle.forms.specs.Lines.{isLine}
 use Rattle.forms.specs.Forms.{forms, Slot, slotsIn, countOf, slotsOf, widthIn, widthOf}
-use Rattle.formrows.specs.declared.rows.Form.{Form}
+use Rattle.forms.specs.declared.rows.Form.{Form}
 use Rattle.forms.proofs.Found.{found-row}
 use Rattle.forms.proofs.Slots.{slots-end, width-here}
 use Rattle.records.specs.declared.answers.Spot.{Spot}
 use Rattle.records.specs.declared.answers.Spot.the-variants.{Nowhere, At}
 use Rattle.records.specs.Answers.{Answer, refused}
-use Rattle.framing.specs.Frame.{fieldOf, frameChecks}
-use Rattle.reading.specs.Field.{rowIn, outside, wrongLetter, badValue, misshapen, fieldChecks}
+use Rattle.reading.specs.Frame.{fieldOf, frameChecks}
+use Rattle.reading.specs.Contents.{rowIn, outside, wrongLetter, badValue, misshapen, fieldChecks}
 use Rattle.reading.specs.Reading.{checks, readingOf}
-use Rattle.datafields.proofs.Walk.{byte-in, byte-out, letter-right, letter-wrong, value-right, value-wrong}
-use Rattle.roundtrips.proofs.Faults.{needs-held, no-fault}
+use Rattle.reading.proofs.Walk.{byte-in, byte-out, letter-right, letter-wrong, value-right, value-wrong}
+use Rattle.writing.proofs.RoundTrips.Faults.{needs-held, no-fault}
 use Rattle.papers.specs.Order.{FirstCheck}
-use Rattle.papers.specs.Firsts.{AllInside, FirstOutside, NineFirst, filledBy, letterPlace, lengthRight, letterRight, valueRight, EachPacket, FirstPacket, OwnRow}
-use Rattle.papers.specs.Firsts.{TenFirst, Shaped, ElevenFirst, AcceptedSound}
+use Rattle.papers.specs.Firsts.{AllInside, FirstOutside, NineFirst, filledBy, letterPlace, lengthRight, letterRight, valueRight, EachPacket, FirstPacket, OwnRow, TenFirst, Shaped, ElevenFirst, AcceptedSound}
 use Rattle.papers.proofs.Order.{refused-first, accepted-clean, no-line}
 
 -- a walk along n things: it goes on over one that passes the test, stops at one that fails, and finds nothing behind the last

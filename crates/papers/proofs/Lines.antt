@@ -6,7 +6,7 @@ use Rattle.laws.specs.Truth.{oneOf}
 use Rattle.laws.proofs.Truths.{both-left, both-right, clash, not-true}
 use Rattle.laws.proofs.Passes.{on-test, same-test, every-all, all-map, oneOf-passes}
 use Rattle.forms.specs.Forms.{forms, onLine, lookIn, formOf, byMaster, bySlave, dataType, typeRow}
-use Rattle.formrows.specs.declared.rows.Form.{Form}
+use Rattle.forms.specs.declared.rows.Form.{Form}
 use Rattle.forms.proofs.Found.{found-type, found-line}
 use Rattle.papers.specs.Lines.{Senders, listedBy, paper, SameNumbers, Agrees, Exact, SameLines, NoTwoRows, ExactLines, NoOtherLine}
 

@@ -9,19 +9,19 @@ use Rattle.laws.specs.Numerals.{numeralOn, numberOn}
 use Rattle.laws.proofs.Truths.{clash}
 use Rattle.characters.specs.Characters.{inSet}
 use Rattle.characters.specs.Checksum.{total, checksumOf, checkText}
-use Rattle.lines.specs.Lines.{lineOf}
+use Rattle.forms.specs.Lines.{lineOf}
 use Rattle.forms.specs.Forms.{forms, onLine, lookIn, formOf, slotsIn, countOf, slotsOf, widthIn, widthOf, typeRow}
-use Rattle.packets.specs.Packets.{leadOf, isDecimal, permits, ruled, permitsNumber}
+use Rattle.values.specs.Packets.{leadOf, isDecimal, permits, ruled, permitsNumber}
 use Rattle.values.specs.Values.{valueOf, permittedFrom, permitted, narrow, numberFits}
 use Rattle.records.specs.declared.records.Record.{Record}
 use Rattle.records.specs.declared.answers.Spot.{Spot}
 use Rattle.records.specs.declared.answers.Spot.the-variants.{Nowhere, At}
 use Rattle.records.specs.Answers.{Fault, good, fails, firstFault, accepted, refused, unless}
-use Rattle.framing.specs.Frame.{countText, summedOf, fieldOf, frameChecks}
-use Rattle.reading.specs.Field.{outside, wrongLetter, badValue, misshapen, fieldChecks}
+use Rattle.reading.specs.Frame.{countText, summedOf, fieldOf, frameChecks}
+use Rattle.reading.specs.Contents.{outside, wrongLetter, badValue, misshapen, fieldChecks}
 use Rattle.reading.specs.Reading.{checks, readingOf}
-use Rattle.roundtrips.proofs.Faults.{faultless-at}
-use Rattle.roundtrips.proofs.Checks.{accepted-only}
+use Rattle.writing.proofs.RoundTrips.Faults.{faultless-at}
+use Rattle.writing.proofs.RoundTrips.Checks.{accepted-only}
 use Rattle.reading.proofs.Contents as contents
 use Rattle.papers.specs.Order.{EveryRefusal, EachOccurs, Eleven, RefusedFirst, AcceptedClean, NoLine}
 

@@ -9,9 +9,9 @@ use lib.Dec.{ltb}
 use lib.ListN.{length, getD}
 use borrow.Author.Tests.{ltb-true, ltb-false, lt-ltb, le-ltb}
 use Rattle.characters.specs.Checksum.{checksumOf, hexOf, checkText}
-use Rattle.framing.specs.Frame.{summedOf}
-use Rattle.roundtrips.proofs.Frames.{two-are}
-use Rattle.roundtrips.proofs.Checks.{accepted-only}
+use Rattle.reading.specs.Frame.{summedOf}
+use Rattle.writing.proofs.RoundTrips.Frames.{two-are}
+use Rattle.writing.proofs.RoundTrips.Checks.{accepted-only}
 use Rattle.papers.specs.Receiver.{unhex, SumsToZero, TelegramSumsToZero, AcceptedSumsToZero}
 
 pub sums-to-zero : SumsToZero

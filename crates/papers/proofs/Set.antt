@@ -8,7 +8,7 @@ use Rattle.laws.proofs.Passes.{on-test, same-test, oneOf-passes}
 use Rattle.characters.specs.Characters.{inSet}
 use Rattle.forms.specs.Forms.{forms, slotsIn, countOf, slotsOf}
 use Rattle.characters.proofs.Codes.{low}
-use Rattle.roundtrips.proofs.Bytes.{permits-set}
+use Rattle.writing.proofs.RoundTrips.Bytes.{permits-set}
 use Rattle.papers.specs.Set.{codesListed, AsListed, SeventyFive, ListedOnce, NoneFrom128, NoCaret, LettersInSet, PermittedInSet}
 
 -- a code of the set is below 128, where set and list are computed; a code of the list passes a range

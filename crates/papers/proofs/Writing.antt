@@ -12,13 +12,13 @@ use Rattle.laws.specs.Truth.{both}
 use Rattle.laws.specs.Numerals.{numeralOn, leftOf}
 use Rattle.laws.proofs.Truths.{both-left}
 use Rattle.characters.specs.Characters.{inSet}
-use Rattle.lines.specs.Lines.{isLine, lineOf}
+use Rattle.forms.specs.Lines.{isLine, lineOf}
 use Rattle.forms.specs.Forms.{forms, onLine, lookIn, formOf, typeRow, slotsIn, countOf, slotsOf, widthIn, widthOf}
-use Rattle.packets.specs.Packets.{leadOf, isDecimal, permits, ruled, permitsNumber}
+use Rattle.values.specs.Packets.{leadOf, isDecimal, permits, ruled, permitsNumber}
 use Rattle.values.specs.Values.{textOf, narrow, numberWidth, permittedFrom, numberFits, permitsValue, permitsValues, rowOf, permitsRecord, lengthOf}
 use Rattle.writing.specs.Writing.{writingOf, telegramOf}
 use Rattle.records.specs.Answers.{Write}
-use Rattle.roundtrips.proofs.Trips.{telegram-length}
+use Rattle.writing.proofs.Trips.{telegram-length}
 use Rattle.papers.specs.Writing.{RefusedInOrder, OldBytes, KeepsBehind}
 
 pub refused-in-order : RefusedInOrder

@@ -4,7 +4,7 @@ use mathlib.Core.List.{List, [], _∷_, map}
 use Prim.Native.Nat.{ℕ, _+_}
 use Prim.Native.Char.{Char, code}
 use Rattle.forms.specs.Forms.{forms, widthOf}
-use Rattle.formrows.specs.declared.rows.Form.{Form}
+use Rattle.forms.specs.declared.rows.Form.{Form}
 
 -- a type, and the byte count of its telegrams
 pub record Count : Type 0 where

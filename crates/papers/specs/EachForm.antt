@@ -10,11 +10,10 @@ use lib.ListN.{getD}
 use Rattle.laws.specs.Truth.{both, every, implies}
 use Rattle.records.specs.declared.records.Radio.{Radio}
 use Rattle.records.specs.declared.records.Record.{Record}
-use Rattle.records.specs.declared.records.Record.the-variants.{Approved, Rejected, Request, Idling, Test, Stop, RadioFault, Fault, Position}
-use Rattle.records.specs.declared.records.Record.the-variants.{Train, TrainData, RadioData, RadioUpdate, Transponder}
-use Rattle.lines.specs.Lines.{lineNumbers}
+use Rattle.records.specs.declared.records.Record.the-variants.{Approved, Rejected, Request, Idling, Test, Stop, RadioFault, Fault, Position, Train, TrainData, RadioData, RadioUpdate, Transponder}
+use Rattle.forms.specs.Lines.{lineNumbers}
 use Rattle.forms.specs.Forms.{forms, onLine}
-use Rattle.formrows.specs.declared.rows.Form.{Form}
+use Rattle.forms.specs.declared.rows.Form.{Form}
 use Rattle.records.specs.Answers.{Answer, accepted}
 use Rattle.reading.specs.Reading.{readingOf}
 use Rattle.papers.specs.Cases.{framed}

@@ -10,10 +10,10 @@ use Rattle.records.specs.Refusals.{no}
 use Rattle.records.specs.declared.records.Record.{Record}
 use Rattle.characters.specs.Characters.{inSet}
 use Rattle.forms.specs.Forms.{forms, onLine, countOf, widthOf}
-use Rattle.formrows.specs.declared.rows.Form.{Form}
+use Rattle.forms.specs.declared.rows.Form.{Form}
 use Rattle.values.specs.Values.{permitted}
 use Rattle.records.specs.Answers.{accepted, refused}
-use Rattle.reading.specs.Field.{rowIn}
+use Rattle.reading.specs.Contents.{rowIn}
 use Rattle.reading.specs.Reading.{readingOf}
 
 -- an index of the data field: from 5 up to the two checksum characters and CR

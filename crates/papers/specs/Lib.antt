@@ -1,3 +1,4 @@
+pub mod Permitted
 pub mod Cases
 pub mod Counts
 pub mod Lines

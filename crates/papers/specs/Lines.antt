@@ -8,9 +8,9 @@ use lib.Dec.{eqb}
 use lib.ListN.{getD}
 use Rattle.laws.specs.Truth.{both, oneOf, every, All, implies}
 use Rattle.laws.specs.Text.{codes}
-use Rattle.lines.specs.Lines.{lineNumbers, isLine}
+use Rattle.forms.specs.Lines.{lineNumbers, isLine}
 use Rattle.forms.specs.Forms.{forms, onLine, formOf, byMaster, bySlave, dataType}
-use Rattle.formrows.specs.declared.rows.Form.{Form}
+use Rattle.forms.specs.declared.rows.Form.{Form}
 
 -- a line: what the master sends and what the slave sends
 pub record Senders : Type 0 where

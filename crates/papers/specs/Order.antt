@@ -8,7 +8,7 @@ use lib.ListN.{length, getD, replicate}
 use Rattle.records.specs.Refusals.{no}
 use Rattle.laws.specs.Truth.{oneOf, every, All}
 use Rattle.laws.specs.Text.{codes}
-use Rattle.lines.specs.Lines.{isLine}
+use Rattle.forms.specs.Lines.{isLine}
 use Rattle.records.specs.declared.records.Record.{Record}
 use Rattle.records.specs.declared.answers.Spot.{Spot}
 use Rattle.records.specs.declared.answers.Spot.the-variants.{Nowhere, At}

@@ -9,7 +9,7 @@ use lib.ListN.{length, getD}
 use Rattle.characters.specs.Checksum.{total, checksumOf, checkText}
 use Rattle.records.specs.declared.records.Record.{Record}
 use Rattle.records.specs.Answers.{accepted}
-use Rattle.framing.specs.Frame.{summedOf, isTwo}
+use Rattle.reading.specs.Frame.{summedOf, isTwo}
 use Rattle.reading.specs.Reading.{readingOf}
 
 -- the sum of any bytes with their checksum is 0 modulo 256

@@ -7,10 +7,10 @@ use lib.ListN.{length}
 use Rattle.laws.specs.Truth.{both, oneOf, every}
 use Rattle.laws.specs.Text.{codes}
 use Rattle.characters.specs.Characters.{inSet}
-use Rattle.lines.specs.Lines.{isLine}
+use Rattle.forms.specs.Lines.{isLine}
 use Rattle.forms.specs.Forms.{forms, Slot, slotsOf}
-use Rattle.formrows.specs.declared.rows.Form.{Form}
-use Rattle.packets.specs.Packets.{permits}
+use Rattle.forms.specs.declared.rows.Form.{Form}
+use Rattle.values.specs.Packets.{permits}
 
 -- the codes of document 01, one by one
 abbrev pub codesListed : List ℕ

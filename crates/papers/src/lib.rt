@@ -1,1 +1,1 @@
-// Theorems that hold the definitions to the papers. No code.
+// Theorems that hold the definitions to the papers.

@@ -1,6 +1,3 @@
-pub mod Spans
-pub mod Listings
-pub mod Shifts
-pub mod Whole
-pub mod Runs
-pub mod Filled
+pub mod Kept
+pub mod Moved
+pub mod Named

@@ -1,2 +1,2 @@
-pub mod Pieces
-pub mod Whole
+pub mod Tails
+pub mod Line

@@ -1,2 +1,3 @@
-// The lines of a lent slice, and what is kept of it for the next piece.
-pub mod pieces;
+// Input of any length, a piece at a time: what is kept between two pieces, and the line that the first byte names.
+pub mod line;
+pub mod tails;

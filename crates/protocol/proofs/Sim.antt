@@ -6,8 +6,7 @@ use Prim.Native.Nat.{ℕ}
 use Rattle.laws.proofs.Truths.{clash}
 use Rattle.protocol.specs.History.{Tel, Hist, over, again}
 use Rattle.protocol.specs.Demand.{Promise, Reported, Spoken}
-use Rattle.protocol.specs.Ends.{Did, Said, Ends, Line, Ev, Sys, silent, says, handles, empty, there, back, sys, lineAfter, telAfter, histAfter}
-use Rattle.protocol.specs.Ends.{noting, lineSaid, histSaid, mdo, ddo, ifRefused, step, run, start, ran, happened}
+use Rattle.protocol.specs.Ends.{Did, Said, Ends, Line, Ev, Sys, silent, says, handles, empty, there, back, sys, lineAfter, telAfter, histAfter, noting, lineSaid, histSaid, mdo, ddo, ifRefused, step, run, start, ran, happened}
 use Rattle.protocol.specs.Rules.{Reading, MView, DView, First, MActs, MHears, DHears, bad, frame, free, waits, view, repeatedAnswer}
 use Rattle.protocol.proofs.Stepwise.{Held}
 use Rattle.protocol.proofs.Protocol.{Way, Phase, St, Step, Steps, Safe, histOf, safe-steps, safe-start, promised, stop, then, st, quiet, going, coming, idle, busy}

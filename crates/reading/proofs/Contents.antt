@@ -7,15 +7,15 @@ use lib.ListN.{length, getD}
 use native.Mathlib.Nat.{add-zero}
 use native.Mathlib.Omega.{arith}
 use Rattle.records.specs.Refusals.{No, no}
-use Rattle.lines.specs.Lines.{isLine}
+use Rattle.forms.specs.Lines.{isLine}
 use Rattle.forms.specs.Forms.{formOf, slotsOf}
 use Rattle.records.specs.Records.{recordOf}
 use Rattle.forms.specs.declared.table.Looked.{Looked}
 use Rattle.records.specs.declared.answers.Spot.{Spot}
 use Rattle.records.specs.declared.answers.Spot.the-variants.{Nowhere, At}
 use Rattle.records.specs.Answers.{Fault, good, fails, firstFault, Answer, accepted, refused, unless}
-use Rattle.framing.specs.Frame.{needs, fieldOf, frameChecks}
-use Rattle.reading.specs.Field.{rowIn, outside, misshapen, badValue, valuesIn, fieldChecks}
+use Rattle.reading.specs.Frame.{needs, fieldOf, frameChecks}
+use Rattle.reading.specs.Contents.{rowIn, outside, misshapen, badValue, valuesIn, fieldChecks}
 use Rattle.reading.specs.Reading.{inForm, recordIn, contentsOf, checks, readingOf}
 
 -- the answer for a row that was looked up, and the place of a byte outside the set

@@ -1,1 +1,4 @@
+pub mod Framing
+pub mod Walk
+pub mod Filled
 pub mod Contents

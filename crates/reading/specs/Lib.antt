@@ -1,2 +1,4 @@
-pub mod Field
+pub mod Frame
+pub mod DataField
+pub mod Contents
 pub mod Reading

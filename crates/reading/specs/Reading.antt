@@ -5,15 +5,15 @@ use mathlib.Core.Bool.{cond}
 use mathlib.Core.List.{List, [], _∷_, _++_}
 use lib.ListN.{getD}
 use Rattle.records.specs.Refusals.{no}
-use Rattle.lines.specs.Lines.{isLine}
+use Rattle.forms.specs.Lines.{isLine}
 use Rattle.forms.specs.Forms.{slotsOf}
 use Rattle.records.specs.Records.{recordOf}
 use Rattle.records.specs.declared.records.Record.{Record}
-use Rattle.formrows.specs.declared.rows.Form.{Form}
+use Rattle.forms.specs.declared.rows.Form.{Form}
 use Rattle.records.specs.declared.answers.Spot.{Spot}
 use Rattle.records.specs.Answers.{firstFault, Answer, accepted, refused, unless}
-use Rattle.framing.specs.Frame.{fieldOf, frameChecks}
-use Rattle.reading.specs.Field.{rowIn, valuesIn, misshapen, badValue, fieldChecks}
+use Rattle.reading.specs.Frame.{fieldOf, frameChecks}
+use Rattle.reading.specs.Contents.{rowIn, valuesIn, misshapen, badValue, fieldChecks}
 
 -- the record that a telegram of a known type carries
 unfoldable pub recordIn : ℕ → List ℕ → Record

@@ -1,8 +1,7 @@
 -- A record is made again of its type and values. Assumes nothing.
 use mathlib.Core.Path.{refl}
 use Rattle.records.specs.Records.{recordOf, RecordAgain}
-use Rattle.records.specs.declared.records.Record.the-variants.{Approved, Rejected, Request, Idling, Test, Stop, RadioFault, Fault, Position}
-use Rattle.records.specs.declared.records.Record.the-variants.{Train, TrainData, RadioData, RadioUpdate, Transponder}
+use Rattle.records.specs.declared.records.Record.the-variants.{Approved, Rejected, Request, Idling, Test, Stop, RadioFault, Fault, Position, Train, TrainData, RadioData, RadioUpdate, Transponder}
 
 pub record-again : RecordAgain
 unfolding recordOf

@@ -9,8 +9,7 @@ use lib.ListN.{getD}
 use Rattle.laws.specs.Truth.{pad}
 use Rattle.records.specs.declared.records.Radio.{Radio}
 use Rattle.records.specs.declared.records.Record.{Record}
-use Rattle.records.specs.declared.records.Record.the-variants.{Approved, Rejected, Request, Idling, Test, Stop, RadioFault, Fault, Position}
-use Rattle.records.specs.declared.records.Record.the-variants.{Train, TrainData, RadioData, RadioUpdate, Transponder}
+use Rattle.records.specs.declared.records.Record.the-variants.{Approved, Rejected, Request, Idling, Test, Stop, RadioFault, Fault, Position, Train, TrainData, RadioData, RadioUpdate, Transponder}
 
 -- the type letter (001 section 5.2)
 abbrev pub typeOf : Record → ℕ

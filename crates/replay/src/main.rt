@@ -1,10 +1,10 @@
 // The replay program (rules Q9 to Q14): runs a fresh desk of a line over the log of standard input. It reads, calls a turn of the replay, and writes.
+use captures::lister::Wants;
 use characters::slices::part;
-use lister::state::Wants;
+use recordings::replay::state::Replayer;
+use recordings::replay::turn::open;
+use recordings::replay::turn::replay;
 use records::answers::Writing;
-use replaying::state::Replayer;
-use replaying::turn::open;
-use replaying::turn::replay;
 use stdio::input::Got;
 use stdio::input::called_alone;
 use stdio::input::read_more;

@@ -30,7 +30,7 @@ fn write(out: &[u8], n: usize) {
 fn desk_row(ends: Ends, row: &[u8], out: &mut [u8]) -> Ends {
     let before = ends.desk;
     let master = ends.master;
-    let printed = deskrows::behind::on_row(before, row, out);
+    let printed = scripts::desks::behind::on_row(before, row, out);
     write(out, printed.length);
     let desk = printed.desk;
     Ends { desk, master }
@@ -39,7 +39,7 @@ fn desk_row(ends: Ends, row: &[u8], out: &mut [u8]) -> Ends {
 fn master_row(ends: Ends, row: &[u8], out: &mut [u8]) -> Ends {
     let desk = ends.desk;
     let before = ends.master;
-    let printed = masterrows::behind::on_row(before, row, out);
+    let printed = scripts::masters::behind::on_row(before, row, out);
     write(out, printed.length);
     let master = printed.master;
     Ends { desk, master }

@@ -10,7 +10,7 @@ use lib.Seq.{take-nil, take-suc-set, append-snoc}
 use borrow.Author.Tests.{lt-ltb, le-ltb}
 use Rattle.laws.proofs.Passes.{order}
 use Rattle.text.specs.Putting.{puts}
-use Rattle.words.specs.Fields.{wordValue}
+use Rattle.text.specs.Fields.{wordValue}
 use Rattle.scripts.specs.Meanings.{roomOf, blankOf, meantAt, bytesAt}
 
 -- what stands before the place behind a text that was put

@@ -6,7 +6,7 @@ use Prim.Native.Nat.{ℕ}
 use lib.Dec.{eqb}
 use lib.ListN.{length, getD}
 use Rattle.laws.specs.Text.{codes}
-use Rattle.words.specs.Fields.{wordOf, wordPlace}
+use Rattle.text.specs.Fields.{wordOf, wordPlace}
 use Rattle.scripts.specs.declared.kinds.Kind.{Kind}
 use Rattle.scripts.specs.declared.kinds.Kind.the-variants.{Desk, Master, Elapsed, Comment, Unknown}
 

@@ -6,9 +6,9 @@ use Prim.Native.Nat.{ℕ, _%_}
 use lib.Dec.{ltb}
 use lib.ListN.{take, replicate}
 use Rattle.records.specs.declared.records.Record.{Record}
-use Rattle.frametexts.specs.Frames.{meantBy}
-use Rattle.words.specs.Fields.{fromField, wordValue}
-use Rattle.items.specs.Items.{recordSaid}
+use Rattle.text.specs.Frames.{meantBy}
+use Rattle.text.specs.Fields.{fromField, wordValue}
+use Rattle.text.specs.Items.{recordSaid}
 
 -- a word as a number kept in a byte
 abbrev pub smallAt : ℕ → List ℕ → ℕ

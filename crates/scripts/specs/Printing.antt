@@ -8,9 +8,9 @@ use lib.ListN.{length, take, getD}
 use Rattle.laws.specs.Text.{codes}
 use Rattle.characters.specs.Marks.{lf}
 use Rattle.clock.specs.Clock.{elapsedOf}
-use Rattle.frametexts.specs.Frames.{shownAs}
+use Rattle.text.specs.Frames.{shownAs}
 use Rattle.text.specs.Numbers.{decimalText}
-use Rattle.words.specs.Fields.{wordValue}
+use Rattle.text.specs.Fields.{wordValue}
 
 -- a row said again, and below it, two spaces in, its answer
 unfoldable pub beganText : List ℕ → List ℕ

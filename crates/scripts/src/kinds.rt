@@ -1,8 +1,8 @@
 // What a row is of.
 ghost use mathlib.Core.Path.{_≡_};
 ghost use Rattle.scripts.specs.Kinds.{unnamedOf, kindNumbered, kindOf};
-use words::fields::word;
-use words::fields::word_place;
+use text::fields::word;
+use text::fields::word_place;
 
 // A row of the desk, of the master or of elapsed time; else a comment, or unknown.
 pub enum Kind {

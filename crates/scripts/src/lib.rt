@@ -1,4 +1,7 @@
-// Rows of a script: what a row is of, what its words mean, and what every answer to a row has (docs/SCENES.md).
+// Rows of a script: which call a row names, what the call answers in words, and what the row prints (rules P8, P9; docs/SCENES.md).
+pub mod desks;
 pub mod kinds;
+pub mod masters;
 pub mod meanings;
 pub mod printing;
+pub mod tellings;

@@ -2,11 +2,11 @@
 ghost use mathlib.Core.Path.{_≡_};
 ghost use Rattle.text.specs.Putting.{puts};
 ghost use Rattle.scripts.specs.Meanings.{smallAt, roomOf, recordAt, meantAt};
-use frametexts::frames::put_meant;
-use items::items::record_said;
 use records::records::Record;
-use words::fields::from_field;
-use words::fields::word_value;
+use text::fields::from_field;
+use text::fields::word_value;
+use text::frames::put_meant;
+use text::items::record_said;
 
 // A word as a number kept in a byte.
 pub fn small(row: &[u8], at: usize) -> u8

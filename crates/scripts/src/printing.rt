@@ -5,11 +5,11 @@ ghost use Rattle.scripts.specs.Printing.{beganText, commentText, unknown
 use characters::slices::byte_at;
 use characters::slices::part;
 use clock::clock::elapsed;
-use frametexts::frames::put_shown;
+use text::fields::word_value;
+use text::frames::put_shown;
 use text::numbers::put_number;
 use text::putting::put_byte;
 use text::putting::put_text;
-use words::fields::word_value;
 
 // A row said again, and the indent of its answer.
 pub fn begin(out: &mut [u8], row: &[u8]) -> usize

@@ -1,2 +1,10 @@
 pub mod Putting
 pub mod Numbers
+pub mod Fours
+pub mod Hex
+pub mod Frames
+pub mod Fields
+pub mod Amounts
+pub mod Items
+pub mod Compared
+pub mod Tally

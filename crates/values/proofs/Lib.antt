@@ -1,3 +1,4 @@
+pub mod Permitted
 pub mod Digits
 pub mod Texts
 pub mod Spelt

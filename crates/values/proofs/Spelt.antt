@@ -9,7 +9,7 @@ use borrow.Author.Tests.{eq-eqb, ne-eqb}
 use Rattle.laws.specs.Truth.{both}
 use Rattle.laws.proofs.Passes.{both-off}
 use Rattle.laws.specs.Numerals.{base, nought, numeralOn, numeral}
-use Rattle.packets.specs.Packets.{leadOf, isDecimal, permits}
+use Rattle.values.specs.Packets.{leadOf, isDecimal, permits}
 use Rattle.values.specs.Values.{textOf, permittedFrom}
 
 -- two tests, and a third behind them

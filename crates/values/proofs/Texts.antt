@@ -14,7 +14,7 @@ use Rattle.laws.specs.Truth.{either}
 use Rattle.laws.proofs.Truths.{clash, both-left, both-right}
 use Rattle.laws.proofs.Passes.{on-either}
 use Rattle.laws.specs.Numerals.{numeral}
-use Rattle.packets.specs.Packets.{leadOf, isDecimal, permits}
+use Rattle.values.specs.Packets.{leadOf, isDecimal, permits}
 use Rattle.values.specs.Values.{textOf, packetText, narrow, permittedFrom, permitsValue, permitsValues}
 use Rattle.forms.specs.Forms.{slotsIn}
 use Rattle.characters.proofs.Parts.{part-first}

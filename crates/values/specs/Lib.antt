@@ -1,1 +1,3 @@
+pub mod PacketNumbers
+pub mod Packets
 pub mod Values

@@ -7,7 +7,7 @@ use lib.ListN.{length, getD, drop}
 use Rattle.laws.specs.Truth.{both, either}
 use Rattle.laws.specs.Numerals.{numeral, leftOf, numberOn}
 use Rattle.forms.specs.Forms.{Slot, slotsOf, widthOf, formOf}
-use Rattle.packets.specs.Packets.{leadOf, isDecimal, permits, ruled, permitsNumber}
+use Rattle.values.specs.Packets.{leadOf, isDecimal, permits, ruled, permitsNumber}
 use Rattle.records.specs.Records.{typeOf, letterOf, valuesOf}
 use Rattle.records.specs.declared.records.Record.{Record}
 use Rattle.forms.specs.declared.table.Looked.{Looked}

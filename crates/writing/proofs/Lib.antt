@@ -1,3 +1,5 @@
 pub mod Put
 pub mod Writes
 pub mod Puts
+pub mod RoundTrips
+pub mod Trips

@@ -13,8 +13,8 @@ use Rattle.forms.specs.Forms.{slotsIn}
 use Rattle.values.specs.Values.{textOf, packetText}
 use Rattle.characters.proofs.Parts.{part-first}
 use Rattle.forms.proofs.Slots.{slots-step}
-use Rattle.framing.specs.Frame.{countText, bodyOf, frameOf, headText, tailText}
-use Rattle.reading.specs.Field.{dataOf}
+use Rattle.reading.specs.Frame.{countText, bodyOf, frameOf, headText, tailText}
+use Rattle.reading.specs.Contents.{dataOf}
 
 -- five bytes, and three
 pub five : (l : List ℕ) (a b c d e : ℕ) → length l ≡ 5 → set (set (set (set (set l 0 a) 1 b) 2 c) 3 d) 4 e ≡ a ∷ b ∷ c ∷ d ∷ e ∷ []

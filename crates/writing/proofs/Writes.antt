@@ -9,15 +9,15 @@ use lib.ListN.{length, drop}
 use borrow.Author.Tests.{lt-ltb, le-ltb, le-leb, lt-leb}
 use Rattle.records.specs.Refusals.{no}
 use Rattle.laws.specs.Truth.{both}
-use Rattle.lines.specs.Lines.{isLine}
+use Rattle.forms.specs.Lines.{isLine}
 use Rattle.forms.specs.Forms.{slotsOf, widthOf}
 use Rattle.records.specs.Records.{typeOf, valuesOf}
 use Rattle.values.specs.Values.{rowOf, permitsRecord, lengthOf}
 use Rattle.records.specs.declared.records.Record.{Record}
 use Rattle.forms.specs.declared.table.Looked.{Looked}
 use Rattle.records.specs.Answers.{written, refused, Write}
-use Rattle.framing.specs.Frame.{frameOf}
-use Rattle.reading.specs.Field.{dataOf}
+use Rattle.reading.specs.Frame.{frameOf}
+use Rattle.reading.specs.Contents.{dataOf}
 use Rattle.writing.specs.Writing.{telegramOf, writingOf}
 
 small : {n : ℕ} → n ≤ 1 → n < 2

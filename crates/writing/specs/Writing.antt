@@ -6,14 +6,14 @@ use lib.Dec.{ltb, leb}
 use lib.ListN.{length, drop}
 use Rattle.records.specs.Refusals.{no}
 use Rattle.laws.specs.Truth.{both}
-use Rattle.lines.specs.Lines.{isLine}
+use Rattle.forms.specs.Lines.{isLine}
 use Rattle.forms.specs.Forms.{slotsOf}
 use Rattle.records.specs.Records.{typeOf, valuesOf}
 use Rattle.values.specs.Values.{rowOf, permitsRecord, lengthOf}
 use Rattle.records.specs.declared.records.Record.{Record}
 use Rattle.records.specs.Answers.{Write, written, refused}
-use Rattle.framing.specs.Frame.{frameOf}
-use Rattle.reading.specs.Field.{dataOf}
+use Rattle.reading.specs.Frame.{frameOf}
+use Rattle.reading.specs.Contents.{dataOf}
 
 -- the telegram of a record with its number on a line
 unfoldable pub telegramOf : ℕ → Record → ℕ → List ℕ

@@ -1,3 +1,3 @@
-// Writing telegrams, and sending them (rules W4 to W8).
+// Writing a telegram, sending it, and both round trips of reading and writing (rules W4 to W8).
 pub mod sending;
 pub mod writing;

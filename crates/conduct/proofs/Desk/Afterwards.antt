@@ -8,14 +8,14 @@ use lib.ListN.{length}
 use Rattle.laws.proofs.Passes.{on-test}
 use Rattle.characters.specs.Marks.{longest}
 use Rattle.records.specs.declared.records.Record.{Record}
-use Rattle.deciding.specs.Deciding.{Ruling}
-use Rattle.deciding.specs.Deciding as r
-use Rattle.replying.specs.Replying.{Origin}
-use Rattle.replying.specs.Replying as o
+use Rattle.desk.specs.Deciding.{Ruling}
+use Rattle.desk.specs.Deciding as r
+use Rattle.desk.specs.Replying.{Origin}
+use Rattle.desk.specs.Replying as o
 use Rattle.desk.specs.State.{inRanges}
 use Rattle.desk.specs.Panel.{losesLine, notedOf}
-use Rattle.deskqueue.specs.Queue.{replyTo, takenBy}
-use Rattle.deskhearing.specs.Hearing.{faultedOf, repeatedOf, handledOf, appliedOf, ruling, heardOf, hearOf}
+use Rattle.desk.specs.Queue.{replyTo, takenBy}
+use Rattle.desk.specs.Hearing.{faultedOf, repeatedOf, handledOf, appliedOf, ruling, heardOf, hearOf}
 use Rattle.desk.specs.declared.state.Desk.{Desk}
 use Rattle.conduct.specs.Desk.Calls.{noted}
 use Rattle.conduct.specs.Desk.Polls.{Same}

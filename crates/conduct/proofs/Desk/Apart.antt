@@ -1,13 +1,13 @@
 -- The paper's numbers and values tell the desk's answers apart (rule G3). Assumes nothing.
 use mathlib.Core.Path.{_≡_, refl, sym, ap, _∙_}
-use Rattle.replying.specs.Replying.{Origin, requested, queue, key, panel, contents, notMaster, nothingSet, originOf}
-use Rattle.replying.specs.declared.replying.Source as s
+use Rattle.desk.specs.Replying.{Origin, requested, queue, key, panel, contents, notMaster, nothingSet, originOf}
+use Rattle.desk.specs.declared.replying.Source as s
 use Rattle.desk.specs.Answers.{Done, done, lost, doneOf}
-use Rattle.deskhearing.specs.Answers.{Told, silent, fault, repeat, handled, toldOf}
+use Rattle.desk.specs.Heard.{Told, silent, fault, repeat, handled, toldOf}
 use Rattle.desk.specs.Answers as d
-use Rattle.deskhearing.specs.Answers as t
+use Rattle.desk.specs.Heard as t
 use Rattle.desk.specs.declared.answers.Outcome as o
-use Rattle.deskhearing.specs.declared.answers.Heard as h
+use Rattle.desk.specs.declared.heard.Heard as h
 use Rattle.conduct.specs.Desk.Apart.{OneOutcome, OneHeard}
 use Rattle.records.proofs.Apart.{backOf, refusal-back}
 

@@ -15,19 +15,19 @@ use Rattle.records.specs.Answers.{accepted}
 use Rattle.records.specs.Answers as w
 use Rattle.reading.specs.Reading.{readingOf}
 use Rattle.writing.specs.Writing.{sentOf}
-use Rattle.roundtrips.proofs.Trips.{written-reads}
+use Rattle.writing.proofs.Trips.{written-reads}
 use Rattle.characters.specs.Marks.{longest}
 use Rattle.clock.specs.Counters.{isNumber, numberIn}
-use Rattle.deciding.specs.Deciding.{Ruling, badFrame}
-use Rattle.deciding.specs.Deciding as r
-use Rattle.deciding.proofs.Rulings.{bad-sum, bad-sum-byte, bad-low, when-refused}
-use Rattle.deciding.proofs.Numbers.{ruling-number}
-use Rattle.replying.proofs.Permitted.{fault-permitted}
-use Rattle.deskhearing.specs.Answers.{silent, fault}
+use Rattle.desk.specs.Deciding.{Ruling, badFrame}
+use Rattle.desk.specs.Deciding as r
+use Rattle.desk.proofs.Rulings.{bad-sum, bad-sum-byte, bad-low, when-refused}
+use Rattle.desk.proofs.Numbers.{ruling-number}
+use Rattle.desk.proofs.Permitted.{fault-permitted}
+use Rattle.desk.specs.Heard.{silent, fault}
 use Rattle.desk.specs.Panel.{losesLine}
-use Rattle.deskhearing.specs.Hearing.{faultedOf, appliedOf, ruling, hearOf}
+use Rattle.desk.specs.Hearing.{faultedOf, appliedOf, ruling, hearOf}
 use Rattle.desk.specs.declared.state.Desk.{Desk}
-use Rattle.deskhearing.proofs.Sendings.{hear-applied}
+use Rattle.desk.proofs.Sendings.{hear-applied}
 use Rattle.conduct.specs.Desk.Calls.{noted, Fine}
 use Rattle.conduct.specs.Desk.Faults.{faultAnswer, SumAnswers, SumReads, OthersSilent}
 use Rattle.conduct.proofs.Desk.Kept.{fits, noted-keeps}

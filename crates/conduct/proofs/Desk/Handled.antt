@@ -13,7 +13,7 @@ use Rattle.laws.specs.Truth.{from, every}
 use Rattle.laws.proofs.Truths.{clash, both-left, both-right, not-true}
 use Rattle.laws.proofs.Passes.{on-test, from-bounds}
 use Rattle.characters.specs.Marks.{longest}
-use Rattle.lines.specs.Lines.{isLine}
+use Rattle.forms.specs.Lines.{isLine}
 use Rattle.forms.specs.Forms.{byMaster, forms, onLine, lookIn, typeRow, dataType}
 use Rattle.forms.proofs.Found.{each-line}
 use Rattle.records.specs.Refusals.{No}
@@ -24,20 +24,20 @@ use Rattle.records.specs.Answers as w
 use Rattle.reading.specs.Reading.{readingOf}
 use Rattle.writing.specs.Writing.{telegramOf, sentOf}
 use Rattle.clock.specs.Counters.{isNumber, numberIn}
-use Rattle.deciding.specs.Deciding.{What, Ruling, handle, repeats, matterIn, goodFrame, badFrame, ruledBy, rulingIn}
-use Rattle.deciding.specs.Deciding as r
-use Rattle.deciding.proofs.Rulings.{not-master, a-request, a-poll, another, good-handled, bad-contents, when-accepted, when-refused}
-use Rattle.replying.specs.Fitting.{mayReply, wantedFits}
-use Rattle.replying.specs.Replying.{Origin, Reply, askedOf, polledOf}
-use Rattle.replying.specs.declared.replying.Wanted.{Wanted}
-use Rattle.replying.specs.declared.replying.Wanted.the-variants.{None, Is}
-use Rattle.deskhearing.specs.Answers.{handled}
+use Rattle.desk.specs.Deciding.{What, Ruling, handle, repeats, matterIn, goodFrame, badFrame, ruledBy, rulingIn}
+use Rattle.desk.specs.Deciding as r
+use Rattle.desk.proofs.Rulings.{not-master, a-request, a-poll, another, good-handled, bad-contents, when-accepted, when-refused}
+use Rattle.desk.specs.Fitting.{mayReply, wantedFits}
+use Rattle.desk.specs.Replying.{Origin, Reply, askedOf, polledOf}
+use Rattle.desk.specs.declared.replying.Wanted.{Wanted}
+use Rattle.desk.specs.declared.replying.Wanted.the-variants.{None, Is}
+use Rattle.desk.specs.Heard.{handled}
 use Rattle.desk.specs.Panel.{losesLine, notedOf}
-use Rattle.deskqueue.specs.Queue.{oldest, replyTo}
-use Rattle.deskhearing.specs.Hearing.{Hearing, faultedOf, repeatedOf, handledOf, appliedOf, ruling, hearOf}
+use Rattle.desk.specs.Queue.{oldest, replyTo}
+use Rattle.desk.specs.Hearing.{Hearing, faultedOf, repeatedOf, handledOf, appliedOf, ruling, hearOf}
 use Rattle.desk.specs.declared.state.Desk.{Desk}
-use Rattle.deskhearing.proofs.Permitted.{oldest-replies}
-use Rattle.deskhearing.proofs.Sendings.{hear-room, hear-applied}
+use Rattle.desk.proofs.Answering.{oldest-replies}
+use Rattle.desk.proofs.Sendings.{hear-room, hear-applied}
 use Rattle.conduct.specs.Desk.Calls.{Fine, noted}
 use Rattle.conduct.specs.Desk.Polls.{Answers}
 use Rattle.conduct.specs.Desk.Handled.{ReplyRow, contents, notMaster, requested, nothingSet, queue, key, panel, New, RowAnswers, HasRow, OnlyRows, NWithA}

@@ -9,26 +9,26 @@ use lib.Dec.{eqb}
 use lib.ListN.{length, drop, replicate, length-append, length-drop, length-set}
 use borrow.Author.Tests.{lt-ltb, le-ltb, ne-eqb}
 use Rattle.laws.proofs.Passes.{on-test}
-use Rattle.lines.specs.Lines.{isLine, lineOf}
+use Rattle.forms.specs.Lines.{isLine, lineOf}
 use Rattle.records.specs.declared.records.Record.{Record}
 use Rattle.values.specs.Values.{permitsRecord}
 use Rattle.writing.specs.Writing.{telegramOf}
-use Rattle.roundtrips.proofs.Trips.{telegram-length, length-bounds}
+use Rattle.writing.proofs.Trips.{telegram-length, length-bounds}
 use Rattle.characters.specs.Marks.{shortest, longest}
-use Rattle.deciding.specs.Deciding.{What, contents, notMaster, request, poll, other}
-use Rattle.replying.specs.Fitting.{mayReply, keyFits, wantedFits}
-use Rattle.replying.specs.Replying.{askedOf, polledOf}
-use Rattle.replying.specs.declared.replying.Wanted.{Wanted}
-use Rattle.replying.specs.declared.replying.Wanted.the-variants.{None, Is}
+use Rattle.desk.specs.Deciding.{What, contents, notMaster, request, poll, other}
+use Rattle.desk.specs.Fitting.{mayReply, keyFits, wantedFits}
+use Rattle.desk.specs.Replying.{askedOf, polledOf}
+use Rattle.desk.specs.declared.replying.Wanted.{Wanted}
+use Rattle.desk.specs.declared.replying.Wanted.the-variants.{None, Is}
 use Rattle.desk.specs.Answers.{done, lost}
-use Rattle.replying.specs.Waiting.{waitingFits, keptFits}
+use Rattle.desk.specs.Waiting.{waitingFits, keptFits}
 use Rattle.desk.specs.State.{numbersFit, recordsFit, inRanges, fresh, startOf}
 use Rattle.desk.specs.Panel.{losesLine, notedOf, withQueued, withRequested, withKey, tickOf, queueOf, setOf, keyOf}
-use Rattle.deskqueue.specs.Queue.{replyTo, popped, takenBy}
-use Rattle.deskhearing.specs.Hearing.{withStored, marked, restarted, faultedOf, repeatedOf, handledOf, hearOf}
+use Rattle.desk.specs.Queue.{replyTo, popped, takenBy}
+use Rattle.desk.specs.Hearing.{withStored, marked, restarted, faultedOf, repeatedOf, handledOf, hearOf}
 use Rattle.desk.specs.declared.state.Desk.{Desk}
 use Rattle.desk.proofs.Ranges.{Fits, ranges-parts, parts-ranges, noted-ranges, kept-most}
-use Rattle.deskhearing.proofs.Permitted.{answer-permitted}
+use Rattle.desk.proofs.Answering.{answer-permitted}
 use Rattle.conduct.specs.Desk.Polls.{waiting}
 use Rattle.conduct.proofs.Desk.Waiting.{filled-behind, oldest-taken, every-behind, every-tail}
 use Rattle.conduct.specs.Desk.Calls.{Call, ticks, queues, sets, turns, hears, did, Result, after, run, refusedBy, Fine}

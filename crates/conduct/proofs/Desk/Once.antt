@@ -9,29 +9,29 @@ use lib.ListN.{length, getD, drop}
 use lib.Seq.{take-append-seam}
 use borrow.Author.Tests.{eqb-true, eqb-false}
 use Rattle.laws.proofs.Passes.{on-test}
-use Rattle.lines.specs.Lines.{isLine}
+use Rattle.forms.specs.Lines.{isLine}
 use Rattle.records.specs.declared.records.Record.{Record}
 use Rattle.values.specs.Values.{permitsRecord}
 use Rattle.records.specs.Answers as w
 use Rattle.writing.specs.Writing.{telegramOf}
-use Rattle.roundtrips.proofs.Trips.{written-reads}
-use Rattle.deciding.specs.Deciding.{What, request, poll, other}
-use Rattle.deciding.specs.Deciding as r
-use Rattle.replying.specs.Replying.{requested, queue, key, contents, notMaster, askedOf}
-use Rattle.replying.specs.declared.replying.Wanted.{Wanted}
-use Rattle.replying.specs.declared.replying.Wanted.the-variants.{None, Is}
+use Rattle.writing.proofs.Trips.{written-reads}
+use Rattle.desk.specs.Deciding.{What, request, poll, other}
+use Rattle.desk.specs.Deciding as r
+use Rattle.desk.specs.Replying.{requested, queue, key, contents, notMaster, askedOf}
+use Rattle.desk.specs.declared.replying.Wanted.{Wanted}
+use Rattle.desk.specs.declared.replying.Wanted.the-variants.{None, Is}
 use Rattle.records.specs.Refusals.{No}
 use Rattle.desk.specs.Answers.{Done, done}
-use Rattle.deskhearing.specs.Answers.{handled}
+use Rattle.desk.specs.Heard.{handled}
 use Rattle.desk.specs.State.{startOf}
 use Rattle.desk.specs.Panel.{losesLine, notedOf, withQueued}
-use Rattle.deskqueue.specs.Queue.{oldest, replyTo}
-use Rattle.deskhearing.specs.Hearing.{Hearing, faultedOf, repeatedOf, handledOf}
-use Rattle.replying.specs.Waiting.{blank}
-use Rattle.replying.specs.declared.waiting.Waiting.{Waiting}
+use Rattle.desk.specs.Queue.{oldest, replyTo}
+use Rattle.desk.specs.Hearing.{Hearing, faultedOf, repeatedOf, handledOf}
+use Rattle.desk.specs.Waiting.{blank}
+use Rattle.desk.specs.declared.waiting.Waiting.{Waiting}
 use Rattle.desk.specs.declared.state.Desk.{Desk}
-use Rattle.replying.proofs.Permitted.{reply-allowed}
-use Rattle.deskhearing.proofs.Permitted.{oldest-replies}
+use Rattle.desk.proofs.Permitted.{reply-allowed}
+use Rattle.desk.proofs.Answering.{oldest-replies}
 use Rattle.conduct.specs.Desk.Calls.{Call, ticks, queues, sets, turns, hears, did, Result, hearing, after, run, Fine}
 use Rattle.conduct.specs.Desk.Polls.{waiting, Answers}
 use Rattle.conduct.specs.Desk.Once.{records, queuedIn, givenIn, accepted, given, QueuedOnce}

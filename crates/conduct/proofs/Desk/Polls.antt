@@ -9,7 +9,7 @@ use lib.Dec.{leb, eqb}
 use lib.ListN.{length, getD, take}
 use borrow.Author.Tests.{leb-true, leb-false, eq-eqb, ne-eqb, eqb-true}
 use Rattle.laws.proofs.Passes.{on-test}
-use Rattle.lines.specs.Lines.{lineOf}
+use Rattle.forms.specs.Lines.{lineOf}
 use Rattle.forms.specs.Forms.{byMaster}
 use Rattle.records.specs.Records.{typeOf}
 use Rattle.records.specs.declared.records.Record.{Record}
@@ -18,21 +18,21 @@ use Rattle.records.specs.Answers.{accepted}
 use Rattle.reading.specs.Reading.{readingOf}
 use Rattle.writing.specs.Writing.{sentOf}
 use Rattle.characters.specs.Marks.{longest}
-use Rattle.deciding.specs.Deciding.{Ruling, silent, fault, repeat, handle, What, contents, notMaster, request, poll, other, matterIn}
-use Rattle.deciding.proofs.Rulings.{a-poll, good-handled, when-accepted}
-use Rattle.replying.specs.Replying.{queue, key, askedOf, keyOn, polledOf}
-use Rattle.replying.specs.declared.replying.Wanted.{Wanted}
-use Rattle.replying.specs.declared.replying.Wanted.the-variants.{None, Is}
-use Rattle.replying.specs.Waiting.{blank, shifted}
+use Rattle.desk.specs.Deciding.{Ruling, silent, fault, repeat, handle, What, contents, notMaster, request, poll, other, matterIn}
+use Rattle.desk.proofs.Rulings.{a-poll, good-handled, when-accepted}
+use Rattle.desk.specs.Replying.{queue, key, askedOf, keyOn, polledOf}
+use Rattle.desk.specs.declared.replying.Wanted.{Wanted}
+use Rattle.desk.specs.declared.replying.Wanted.the-variants.{None, Is}
+use Rattle.desk.specs.Waiting.{blank, shifted}
 use Rattle.desk.specs.Panel.{losesLine, notedOf}
-use Rattle.deskqueue.specs.Queue.{oldest, replyTo, takenBy}
-use Rattle.deskhearing.specs.Hearing.{Hearing, faultedOf, repeatedOf, handledOf, appliedOf, ruling, hearOf}
-use Rattle.replying.specs.declared.waiting.Waiting.{Waiting}
+use Rattle.desk.specs.Queue.{oldest, replyTo, takenBy}
+use Rattle.desk.specs.Hearing.{Hearing, faultedOf, repeatedOf, handledOf, appliedOf, ruling, hearOf}
+use Rattle.desk.specs.declared.waiting.Waiting.{Waiting}
 use Rattle.desk.specs.declared.state.Desk.{Desk}
 use Rattle.conduct.specs.Desk.Calls.{noted, Fine}
 use Rattle.conduct.specs.Desk.Polls.{waiting, Answers, Same, PollsByT, TPolls, PollOldest, PollEmpty, KeyByLine, OthersLeave}
 use Rattle.conduct.proofs.Desk.Waiting.{oldest-taken, oldest-first}
-use Rattle.deskhearing.proofs.Sendings.{hear-room, hear-applied}
+use Rattle.desk.proofs.Sendings.{hear-room, hear-applied}
 use Rattle.conduct.proofs.Desk.Steps.{never}
 use Rattle.conduct.proofs.Desk.Kept.{fits}
 use Rattle.conduct.proofs.Desk.Handled.{sends-t, HandledAs, read, unread, handled-heard}

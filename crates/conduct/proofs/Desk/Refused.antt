@@ -8,13 +8,13 @@ use lib.ListN.{length}
 use Rattle.records.specs.Answers.{Fault, good, fails}
 use Rattle.records.specs.Refusals.{no}
 use Rattle.characters.specs.Marks.{longest}
-use Rattle.deciding.specs.Deciding.{Ruling}
-use Rattle.deciding.specs.Deciding as r
+use Rattle.desk.specs.Deciding.{Ruling}
+use Rattle.desk.specs.Deciding as r
 use Rattle.desk.specs.Answers.{Done, done, lost}
-use Rattle.deskhearing.specs.Answers.{Told}
+use Rattle.desk.specs.Heard.{Told}
 use Rattle.desk.specs.State.{inRanges}
 use Rattle.desk.specs.Panel.{losesLine, withQueued, recordFault, faultless, keyFault, tickOf, queueOf, setOf, keyOf}
-use Rattle.deskhearing.specs.Hearing.{faultedOf, repeatedOf, handledOf, appliedOf, ruling, heardOf, hearOf}
+use Rattle.desk.specs.Hearing.{faultedOf, repeatedOf, handledOf, appliedOf, ruling, heardOf, hearOf}
 use Rattle.desk.specs.declared.state.Desk.{Desk}
 use Rattle.conduct.specs.Desk.Calls.{noted}
 use Rattle.conduct.specs.Desk.Refused.{Unmoved, Unheard, TickRefusedSame, QueueRefusedSame, SetRefusedSame, KeyRefusedSame, HearRefusedSame}

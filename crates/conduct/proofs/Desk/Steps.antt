@@ -10,7 +10,7 @@ use lib.ListN.{length}
 use borrow.Author.Tests.{ltb-true}
 use Rattle.laws.specs.Truth.{both}
 use Rattle.laws.proofs.Passes.{on-test}
-use Rattle.lines.specs.Lines.{lineOf, isKey}
+use Rattle.forms.specs.Lines.{lineOf, isKey}
 use Rattle.forms.specs.Forms.{dataType}
 use Rattle.records.specs.Refusals.{No, no}
 use Rattle.records.specs.Records.{typeOf}
@@ -18,16 +18,16 @@ use Rattle.records.specs.declared.records.Record.{Record}
 use Rattle.values.specs.Values.{permitsRecord}
 use Rattle.records.specs.Answers.{Fault, good, fails}
 use Rattle.characters.specs.Marks.{longest}
-use Rattle.deciding.specs.Deciding.{What, Ruling, answersWith}
-use Rattle.deciding.specs.Deciding as r
-use Rattle.deciding.proofs.Numbers.{ruling-number}
-use Rattle.replying.specs.Fitting.{mayReply, keyFits}
+use Rattle.desk.specs.Deciding.{What, Ruling, answersWith}
+use Rattle.desk.specs.Deciding as r
+use Rattle.desk.proofs.Numbers.{ruling-number}
+use Rattle.desk.specs.Fitting.{mayReply, keyFits}
 use Rattle.desk.specs.Answers.{Done, done, lost}
-use Rattle.deskhearing.specs.Answers.{Told, silent}
+use Rattle.desk.specs.Heard.{Told, silent}
 use Rattle.desk.specs.State.{inRanges}
 use Rattle.desk.specs.Panel.{losesLine, withQueued, withRequested, withKey, recordFault, faultless, keyFault, tickOf, queueOf, setOf, keyOf}
-use Rattle.deskqueue.specs.Queue.{replyTo}
-use Rattle.deskhearing.specs.Hearing.{faultedOf, repeatedOf, handledOf, appliedOf, ruling, heardOf, hearOf}
+use Rattle.desk.specs.Queue.{replyTo}
+use Rattle.desk.specs.Hearing.{faultedOf, repeatedOf, handledOf, appliedOf, ruling, heardOf, hearOf}
 use Rattle.desk.specs.declared.state.Desk.{Desk}
 use Rattle.conduct.specs.Desk.Calls.{Call, ticks, queues, sets, turns, hears, did, heard, Result, saying, hearing, after, noted}
 

@@ -13,27 +13,27 @@ use Rattle.laws.specs.Truth.{every}
 use Rattle.laws.proofs.Truths.{both-left, both-right}
 use Rattle.laws.proofs.Passes.{on-test}
 use Rattle.forms.proofs.Found.{each-line}
-use Rattle.lines.specs.Lines.{isLine}
+use Rattle.forms.specs.Lines.{isLine}
 use Rattle.forms.specs.Forms.{forms, onLine, lookIn, typeRow, dataType, bySlave}
 use Rattle.records.specs.Records.{typeOf}
 use Rattle.records.specs.declared.records.Record.{Record}
 use Rattle.values.specs.Values.{permitsRecord}
 use Rattle.writing.specs.Writing.{telegramOf, sentOf}
-use Rattle.roundtrips.proofs.Trips.{telegram-length, length-bounds}
+use Rattle.writing.proofs.Trips.{telegram-length, length-bounds}
 use Rattle.characters.specs.Marks.{longest}
-use Rattle.deciding.specs.Deciding.{What, contents, notMaster, request, poll, other}
-use Rattle.replying.specs.Fitting.{mayReply, wantedFits}
-use Rattle.replying.specs.Replying.{askedOf, polledOf}
-use Rattle.replying.specs.declared.replying.Wanted.{Wanted}
-use Rattle.replying.specs.declared.replying.Wanted.the-variants.{None, Is}
-use Rattle.deskhearing.specs.Answers.{Told}
-use Rattle.deskhearing.specs.Answers as h
+use Rattle.desk.specs.Deciding.{What, contents, notMaster, request, poll, other}
+use Rattle.desk.specs.Fitting.{mayReply, wantedFits}
+use Rattle.desk.specs.Replying.{askedOf, polledOf}
+use Rattle.desk.specs.declared.replying.Wanted.{Wanted}
+use Rattle.desk.specs.declared.replying.Wanted.the-variants.{None, Is}
+use Rattle.desk.specs.Heard.{Told}
+use Rattle.desk.specs.Heard as h
 use Rattle.desk.specs.State.{storedOf, startOf}
 use Rattle.desk.specs.Panel.{losesLine, notedOf}
-use Rattle.deskqueue.specs.Queue.{oldest, replyTo}
-use Rattle.deskhearing.specs.Hearing.{faultedOf, repeatedOf, handledOf, hearOf}
+use Rattle.desk.specs.Queue.{oldest, replyTo}
+use Rattle.desk.specs.Hearing.{faultedOf, repeatedOf, handledOf, hearOf}
 use Rattle.desk.specs.declared.state.Desk.{Desk}
-use Rattle.deskhearing.proofs.Permitted.{oldest-replies, answer-permitted}
+use Rattle.desk.proofs.Answering.{oldest-replies, answer-permitted}
 use Rattle.conduct.specs.Desk.Calls.{Call, hears, heard, Result, after, run, noted, Fine}
 use Rattle.conduct.specs.Desk.Stored.{Holding, StoredTelegram, StoredAsSent}
 use Rattle.conduct.proofs.Desk.Steps.{never, Does, barred, noRoom, ticked, queued, isSet, turned, unmoved, faults, repeats, handled, does}

@@ -3,8 +3,8 @@ use mathlib.Core.Path.{_≡_, refl, sym, _∙_}
 use mathlib.Core.Bool.{true, false}
 use Prim.Native.Nat.{ℕ, _^_, _≤_, _<_}
 use native.Mathlib.Omega.{arith}
-use Rattle.deciding.specs.Deciding.{matterIn}
-use Rattle.deciding.proofs.Rulings.{no-repeat, good-handled, when-accepted}
+use Rattle.desk.specs.Deciding.{matterIn}
+use Rattle.desk.proofs.Rulings.{no-repeat, good-handled, when-accepted}
 use Rattle.desk.specs.Panel.{t1Limit, withGood, losesLine, notedOf}
 use Rattle.desk.specs.declared.state.Desk.{Desk}
 use Rattle.desk.proofs.Calls.{tick-lost, tick-done}

@@ -9,8 +9,8 @@ use lib.ListN.{length, getD, take, drop, set, length-drop, drop-of-length-le}
 use lib.Seq.{drop-cons, take-nil, take-append-le, take-suc-set}
 use Rattle.laws.specs.Truth.{every}
 use Rattle.laws.proofs.Truths.{both-left, both-right, both-true}
-use Rattle.replying.specs.Waiting.{blank, shifted}
-use Rattle.replying.specs.declared.waiting.Waiting.{Waiting}
+use Rattle.desk.specs.Waiting.{blank, shifted}
+use Rattle.desk.specs.declared.waiting.Waiting.{Waiting}
 
 -- a place filled behind those that are queued
 pub filled-behind : (q : List Waiting) (n : ℕ) (s : Waiting) → n < length q → take (n + 1) (set q n s) ≡ take n q ++ (s ∷ [])

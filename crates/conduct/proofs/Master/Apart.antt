@@ -3,8 +3,7 @@ use mathlib.Core.Path.{_≡_, refl, sym, ap, _∙_}
 use Rattle.records.specs.Answers.{Answer, accepted, answerOf}
 use Rattle.records.specs.Answers as w
 use Rattle.records.specs.declared.answers.Reading as g
-use Rattle.master.specs.Answers.{Which, offered, again, poll, whichOf, Ground, silence, rejected, groundOf}
-use Rattle.master.specs.Answers.{Why, free, runOut, otherNumber, whyOf, Told, nothing, sent, answered, otherKind, givenUp, ignored, toldOf}
+use Rattle.master.specs.Answers.{Which, offered, again, poll, whichOf, Ground, silence, rejected, groundOf, Why, free, runOut, otherNumber, whyOf, Told, nothing, sent, answered, otherKind, givenUp, ignored, toldOf}
 use Rattle.master.specs.declared.answers.Sending as s
 use Rattle.master.specs.declared.answers.Cause as c
 use Rattle.master.specs.declared.answers.Reason as r

@@ -12,20 +12,20 @@ use Rattle.records.specs.Refusals.{No, no}
 use Rattle.records.specs.Records.{typeOf}
 use Rattle.records.specs.declared.records.Record.{Record}
 use Rattle.values.specs.Values.{permitsRecord}
-use Rattle.framing.specs.Frame.{frameChecks}
+use Rattle.reading.specs.Frame.{frameChecks}
 use Rattle.reading.specs.Reading.{readingOf}
 use Rattle.clock.specs.Clock.{runOut}
 use Rattle.clock.specs.Counters.{sameNumber, numberIn}
 use Rattle.characters.specs.Marks.{longest}
-use Rattle.masterrules.specs.Rules.{pollOf, isFailure, permittedAnswer}
-use Rattle.masterrules.specs.Times.{operationAfter}
-use Rattle.judging.specs.Judging.{Judged, answeredBy, takenOf, unlessBad, judgeOf}
-use Rattle.judging.specs.Judging as j
+use Rattle.master.specs.Rules.{pollOf, isFailure, permittedAnswer}
+use Rattle.master.specs.Times.{operationAfter}
+use Rattle.master.specs.Answering.{Judged, answeredBy, takenOf, unlessBad, judgeOf}
+use Rattle.master.specs.Answering as j
 use Rattle.master.specs.declared.state.Master.{Master}
 use Rattle.master.specs.Answers.{Which, again, poll, Ground, silence, rejected}
 use Rattle.master.specs.State.{isFree, sendable, inRanges, callFault, withLine, answeredState, withOperation, givenUpState}
 use Rattle.master.specs.Sending.{Behind, t0Limit, t2Limit, unlessRefused, sendingOf, failedOf, offerFault, offerOf, pollingOf, waitingOf, tickOf}
-use Rattle.masterhearing.specs.Hearing.{settledOf, judged, hearOf}
+use Rattle.master.specs.Hearing.{settledOf, judged, hearOf}
 use Rattle.master.proofs.Ranges.{passed, lined, sendable-both, poll-sendable}
 use Rattle.master.proofs.Sends.{offer-passed}
 use Rattle.conduct.specs.Master.Calls.{Call, offers, ticks, hears, callTime, outputOf, after, FirstSending, offered, polled, lineAfter}

@@ -10,26 +10,26 @@ use Rattle.records.specs.Records.{typeOf}
 use Rattle.records.specs.declared.records.Record.{Record}
 use Rattle.records.specs.Answers.{firstFault, good, Answer, accepted}
 use Rattle.records.specs.Answers as w
-use Rattle.framing.specs.Frame.{frameChecks}
+use Rattle.reading.specs.Frame.{frameChecks}
 use Rattle.reading.specs.Reading.{readingOf}
-use Rattle.roundtrips.proofs.Checks.{accepted-only}
-use Rattle.roundtrips.proofs.Faults.{faultless-good}
-use Rattle.roundtrips.proofs.Frames.{framed-faultless}
+use Rattle.writing.proofs.RoundTrips.Checks.{accepted-only}
+use Rattle.writing.proofs.RoundTrips.Faults.{faultless-good}
+use Rattle.writing.proofs.RoundTrips.Frames.{framed-faultless}
 use Rattle.clock.specs.Counters.{numberIn}
-use Rattle.deciding.proofs.Numbers.{good-checked}
-use Rattle.masterrules.specs.Rules.{isFailure}
-use Rattle.judging.specs.Judging.{Judged, takenOf}
-use Rattle.judging.specs.Judging as j
-use Rattle.judging.proofs.Verdicts.{by-failure, by-permitted, by-other, when-bad, when-other, when-taken}
+use Rattle.desk.proofs.Numbers.{good-checked}
+use Rattle.master.specs.Rules.{isFailure}
+use Rattle.master.specs.Answering.{Judged, takenOf}
+use Rattle.master.specs.Answering as j
+use Rattle.master.proofs.Verdicts.{by-failure, by-permitted, by-other, when-bad, when-other, when-taken}
 use Rattle.master.specs.declared.state.Master.{Master}
 use Rattle.master.specs.declared.answers.Reason as r
 use Rattle.master.specs.State.{withLine, givenUpState}
 use Rattle.master.specs.Sending.{t2Limit}
-use Rattle.masterhearing.specs.Hearing.{settledOf, judged}
+use Rattle.master.specs.Hearing.{settledOf, judged}
 use Rattle.master.specs.Answers as t
 use Rattle.master.proofs.Ranges.{passes}
 use Rattle.master.proofs.Sends.{gave-up, sent-again}
-use Rattle.masterhearing.proofs.Hears.{ignoring, hear-free, hear-heard}
+use Rattle.master.proofs.Hears.{ignoring, hear-free, hear-heard}
 use Rattle.conduct.specs.Master.Hears.{HeardInTime, HearsFailure, HearsThirdFailure, HearsAnswer, HearsOtherKind, HearsContents, IgnoresBad, IgnoresOtherNumber, IgnoresWhileFree}
 use Rattle.conduct.proofs.Times.{still-runs}
 

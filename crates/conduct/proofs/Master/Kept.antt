@@ -10,9 +10,9 @@ use Rattle.laws.specs.Truth.{either}
 use Rattle.laws.proofs.Truths.{clash}
 use Rattle.records.specs.Refusals.{No}
 use Rattle.records.specs.Records.{typeOf}
-use Rattle.lines.specs.Lines.{isLine}
-use Rattle.masterrules.specs.Times.{operationFits}
-use Rattle.masterrules.proofs.Positions.{after-fits}
+use Rattle.forms.specs.Lines.{isLine}
+use Rattle.master.specs.Times.{operationFits}
+use Rattle.master.proofs.Positions.{after-fits}
 use Rattle.clock.specs.Counters.{changedOf}
 use Rattle.master.specs.declared.state.Master.{Master}
 use Rattle.master.specs.Answers.{Told, refused}

@@ -2,14 +2,14 @@
 use mathlib.Core.Path.{refl}
 use Rattle.laws.specs.Numerals.{numeralOn, leftOf}
 use Rattle.characters.specs.Checksum.{total, checksumOf, checkText}
-use Rattle.lines.specs.Lines.{lineOf}
+use Rattle.forms.specs.Lines.{lineOf}
 use Rattle.forms.specs.Forms.{forms, onLine, lookIn, typeRow, formOf, dataType, slotsIn, countOf, slotsOf, widthIn, widthOf}
-use Rattle.framing.specs.Frame.{countText, bodyOf, frameOf}
-use Rattle.packets.specs.Packets.{leadOf, isDecimal}
+use Rattle.reading.specs.Frame.{countText, bodyOf, frameOf}
+use Rattle.values.specs.Packets.{leadOf, isDecimal}
 use Rattle.values.specs.Values.{textOf}
-use Rattle.reading.specs.Field.{dataOf}
+use Rattle.reading.specs.Contents.{dataOf}
 use Rattle.writing.specs.Writing.{telegramOf}
-use Rattle.masterrules.specs.Rules.{pollOf, answersTo, permittedAnswer}
+use Rattle.master.specs.Rules.{pollOf, answersTo, permittedAnswer}
 use Rattle.conduct.specs.Master.Paper.{EachPoll, EachAnswer, EachTypeListed}
 
 pub each-poll : EachPoll

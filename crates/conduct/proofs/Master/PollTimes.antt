@@ -9,11 +9,11 @@ use lib.ListN.{getD}
 use borrow.Author.Tests.{eqb-true}
 use Rattle.laws.specs.Truth.{both, every, All}
 use Rattle.laws.proofs.Truths.{both-left, both-right, clash}
-use Rattle.lines.specs.Lines.{isLine, lineOf}
+use Rattle.forms.specs.Lines.{isLine, lineOf}
 use Rattle.records.specs.Records.{typeOf, valuesOf}
 use Rattle.records.specs.declared.records.Record.{Record}
-use Rattle.masterrules.specs.Rules.{pollOf}
-use Rattle.masterrules.specs.Times.{reduces, t0Of, operationAfter}
+use Rattle.master.specs.Rules.{pollOf}
+use Rattle.master.specs.Times.{reduces, t0Of, operationAfter}
 use Rattle.master.specs.declared.state.Master.{Master}
 use Rattle.master.specs.Answers.{Which, Told}
 use Rattle.master.specs.State.{isFree, inRanges, started}

@@ -10,13 +10,13 @@ use Rattle.records.specs.Refusals.{No}
 use Rattle.records.specs.declared.records.Record.{Record}
 use Rattle.records.specs.Answers.{Fault, good, fails}
 use Rattle.clock.specs.Clock.{runOut}
-use Rattle.judging.specs.Judging.{Judged}
-use Rattle.judging.specs.Judging as j
+use Rattle.master.specs.Answering.{Judged}
+use Rattle.master.specs.Answering as j
 use Rattle.master.specs.declared.state.Master.{Master}
 use Rattle.master.specs.Answers.{Which, Ground, Told, refused}
 use Rattle.master.specs.State.{isFree, callFault}
 use Rattle.master.specs.Sending.{Behind, t0Limit, t2Limit, unlessRefused, sendingOf, failedOf, offerFault, offerOf, pollingOf, waitingOf, tickOf}
-use Rattle.masterhearing.specs.Hearing.{settledOf, judged, hearOf}
+use Rattle.master.specs.Hearing.{settledOf, judged, hearOf}
 use Rattle.conduct.specs.Master.Calls.{offers, ticks, hears}
 use Rattle.conduct.specs.Master.Refused.{RefusedSame}
 

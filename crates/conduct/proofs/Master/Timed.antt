@@ -10,29 +10,29 @@ use Rattle.master.specs.declared.state.Master.{Master}
 use Rattle.master.specs.declared.answers.Reason as r
 use Rattle.master.proofs.Ranges.{passes}
 use Rattle.master.proofs.Sends.{gave-up, sent-again, no-poll, polled, waits, silent, tick-free, tick-busy}
-use Rattle.masterhearing.proofs.Hears.{ignoring, hear-late}
+use Rattle.master.proofs.Hears.{ignoring, hear-late}
 use Rattle.conduct.specs.Times.{clockAfter}
 use Rattle.conduct.proofs.Times.{still-runs, has-run-out}
 use Rattle.laws.specs.Numerals.{numeralOn, numberOn, leftOf}
 use Rattle.characters.specs.Marks.{longest}
 use Rattle.characters.specs.Characters.{inSet}
 use Rattle.characters.specs.Checksum.{total, checksumOf, checkText}
-use Rattle.lines.specs.Lines.{lineOf}
+use Rattle.forms.specs.Lines.{lineOf}
 use Rattle.forms.specs.Forms.{forms, onLine, lookIn, typeRow, formOf, dataType, slotsIn, countOf, slotsOf, widthIn, widthOf}
 use Rattle.records.specs.Records.{recordOf}
-use Rattle.packets.specs.Packets.{leadOf, isDecimal, permits, ruled, permitsNumber}
+use Rattle.values.specs.Packets.{leadOf, isDecimal, permits, ruled, permitsNumber}
 use Rattle.values.specs.Values.{permitsRecord, textOf, narrow, valueOf, numberWidth, permittedFrom, numberFits, permitted, permitsValue, permitsValues}
-use Rattle.framing.specs.Frame.{countText, summedOf, fieldOf, frameChecks}
-use Rattle.reading.specs.Field.{outside, wrongLetter, badValue, valuesIn, misshapen, fieldChecks}
+use Rattle.reading.specs.Frame.{countText, summedOf, fieldOf, frameChecks}
+use Rattle.reading.specs.Contents.{outside, wrongLetter, badValue, valuesIn, misshapen, fieldChecks}
 use Rattle.reading.specs.Reading.{recordIn, checks, readingOf}
 use Rattle.writing.specs.Writing.{sentOf}
 use Rattle.clock.specs.Clock.{runOut}
-use Rattle.masterrules.specs.Rules.{pollOf, isFailure, answersTo, permittedAnswer}
-use Rattle.masterrules.specs.Times.{operationFits}
-use Rattle.judging.specs.Judging.{answeredBy, judgeOf}
+use Rattle.master.specs.Rules.{pollOf, isFailure, answersTo, permittedAnswer}
+use Rattle.master.specs.Times.{operationFits}
+use Rattle.master.specs.Answering.{answeredBy, judgeOf}
 use Rattle.master.specs.State.{sendable, fitsFree, inRanges, callFault, withLine, givenUpState}
 use Rattle.master.specs.Sending.{t0Limit, t2Limit, sendingOf, failedOf, offerFault, offerOf, pollingOf, waitingOf, tickOf}
-use Rattle.masterhearing.specs.Hearing.{hearOf}
+use Rattle.master.specs.Hearing.{hearOf}
 use Rattle.master.specs.Answers as t
 use Rattle.conduct.specs.Master.Timed.{Free, Busy, TicksBeforeT0, TicksFromT0, TicksBeforeT2, TicksFromT2, GivesUpFromT2, IgnoresFromT2, HearsAt1999, IgnoresAt2000}
 

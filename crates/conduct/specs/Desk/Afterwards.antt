@@ -6,9 +6,9 @@ use Prim.Native.Nat.{ℕ, _≤_}
 use lib.ListN.{length}
 use Rattle.characters.specs.Marks.{longest}
 use Rattle.records.specs.declared.records.Record.{Record}
-use Rattle.replying.specs.Replying.{Origin}
-use Rattle.replying.specs.Replying as o
-use Rattle.deskhearing.specs.Hearing.{hearOf}
+use Rattle.desk.specs.Replying.{Origin}
+use Rattle.desk.specs.Replying as o
+use Rattle.desk.specs.Hearing.{hearOf}
 use Rattle.desk.specs.declared.state.Desk.{Desk}
 use Rattle.conduct.specs.Desk.Calls.{Fine}
 use Rattle.conduct.specs.Desk.Polls.{Same}

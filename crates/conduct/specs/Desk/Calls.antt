@@ -7,12 +7,12 @@ use lib.ListN.{length}
 use Rattle.records.specs.declared.records.Record.{Record}
 use Rattle.characters.specs.Marks.{longest}
 use Rattle.desk.specs.Answers.{Done, done, lost}
-use Rattle.deskhearing.specs.Answers.{Told, silent, fault, repeat, handled}
+use Rattle.desk.specs.Heard.{Told, silent, fault, repeat, handled}
 use Rattle.desk.specs.Answers as d
-use Rattle.deskhearing.specs.Answers as h
+use Rattle.desk.specs.Heard as h
 use Rattle.desk.specs.State.{inRanges}
 use Rattle.desk.specs.Panel.{losesLine, notedOf, tickOf, queueOf, setOf, keyOf}
-use Rattle.deskhearing.specs.Hearing.{Hearing, hearOf}
+use Rattle.desk.specs.Hearing.{Hearing, hearOf}
 use Rattle.desk.specs.declared.state.Desk.{Desk}
 
 -- a call: its time where it has one, what it brings, and the output that it may fill

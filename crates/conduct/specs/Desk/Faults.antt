@@ -13,9 +13,9 @@ use Rattle.reading.specs.Reading.{readingOf}
 use Rattle.writing.specs.Writing.{telegramOf}
 use Rattle.characters.specs.Marks.{longest}
 use Rattle.clock.specs.Counters.{isNumber, numberIn}
-use Rattle.deskhearing.specs.Answers.{silent, fault}
+use Rattle.desk.specs.Heard.{silent, fault}
 use Rattle.desk.specs.Panel.{losesLine}
-use Rattle.deskhearing.specs.Hearing.{hearOf}
+use Rattle.desk.specs.Hearing.{hearOf}
 use Rattle.desk.specs.declared.state.Desk.{Desk}
 use Rattle.conduct.specs.Desk.Calls.{Fine, noted}
 

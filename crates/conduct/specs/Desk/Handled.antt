@@ -16,14 +16,14 @@ use Rattle.records.specs.Answers as w
 use Rattle.reading.specs.Reading.{readingOf}
 use Rattle.writing.specs.Writing.{telegramOf}
 use Rattle.clock.specs.Counters.{numberIn}
-use Rattle.deciding.specs.Deciding.{repeats}
-use Rattle.replying.specs.Replying.{Origin, keyOn}
-use Rattle.replying.specs.Replying as o
-use Rattle.replying.specs.declared.replying.Wanted.the-variants.{None, Is}
-use Rattle.deskhearing.specs.Answers.{handled}
+use Rattle.desk.specs.Deciding.{repeats}
+use Rattle.desk.specs.Replying.{Origin, keyOn}
+use Rattle.desk.specs.Replying as o
+use Rattle.desk.specs.declared.replying.Wanted.the-variants.{None, Is}
+use Rattle.desk.specs.Heard.{handled}
 use Rattle.desk.specs.Panel.{losesLine}
-use Rattle.deskqueue.specs.Queue.{oldest}
-use Rattle.deskhearing.specs.Hearing.{hearOf}
+use Rattle.desk.specs.Queue.{oldest}
+use Rattle.desk.specs.Hearing.{hearOf}
 use Rattle.desk.specs.declared.state.Desk.{Desk}
 use Rattle.conduct.specs.Desk.Calls.{Fine, noted}
 use Rattle.conduct.specs.Desk.Polls.{Answers}

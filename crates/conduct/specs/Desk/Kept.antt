@@ -4,7 +4,7 @@ use mathlib.Core.Bool.{true}
 use mathlib.Core.List.{List}
 use Prim.Native.Nat.{ℕ, _≤_}
 use lib.ListN.{length}
-use Rattle.lines.specs.Lines.{isLine}
+use Rattle.forms.specs.Lines.{isLine}
 use Rattle.characters.specs.Marks.{longest}
 use Rattle.desk.specs.State.{inRanges, startOf}
 use Rattle.desk.specs.declared.state.Desk.{Desk}

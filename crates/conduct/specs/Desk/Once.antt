@@ -4,17 +4,17 @@ use mathlib.Core.Bool.{true}
 use mathlib.Core.List.{List, [], _∷_, _++_, map}
 use Prim.Native.Nat.{ℕ}
 use lib.ListN.{take}
-use Rattle.lines.specs.Lines.{isLine}
+use Rattle.forms.specs.Lines.{isLine}
 use Rattle.records.specs.declared.records.Record.{Record}
 use Rattle.records.specs.Answers as w
 use Rattle.reading.specs.Reading.{readingOf}
-use Rattle.replying.specs.Replying.{Origin, requested, queue, key, panel, contents, notMaster, nothingSet}
+use Rattle.desk.specs.Replying.{Origin, requested, queue, key, panel, contents, notMaster, nothingSet}
 use Rattle.desk.specs.Answers.{done, lost}
-use Rattle.deskhearing.specs.Answers.{silent, fault, repeat, handled}
+use Rattle.desk.specs.Heard.{silent, fault, repeat, handled}
 use Rattle.desk.specs.Answers as d
-use Rattle.deskhearing.specs.Answers as h
+use Rattle.desk.specs.Heard as h
 use Rattle.desk.specs.State.{startOf}
-use Rattle.replying.specs.declared.waiting.Waiting.{Waiting}
+use Rattle.desk.specs.declared.waiting.Waiting.{Waiting}
 use Rattle.desk.specs.declared.state.Desk.{Desk}
 use Rattle.conduct.specs.Desk.Calls.{Call, ticks, queues, sets, turns, hears, Answered, did, heard, after, run}
 use Rattle.conduct.specs.Desk.Polls.{waiting}

@@ -5,7 +5,7 @@ use mathlib.Core.List.{List, [], _∷_, _++_, map}
 use Prim.Native.Nat.{ℕ, _≤_}
 use Prim.Native.Char.{code}
 use lib.ListN.{length, getD, take, drop}
-use Rattle.lines.specs.Lines.{lineNumbers, isLine}
+use Rattle.forms.specs.Lines.{lineNumbers, isLine}
 use Rattle.records.specs.Records.{typeOf}
 use Rattle.records.specs.declared.records.Record.{Record}
 use Rattle.records.specs.declared.records.Record.the-variants.{Approved}
@@ -13,14 +13,14 @@ use Rattle.records.specs.Answers.{accepted}
 use Rattle.reading.specs.Reading.{readingOf}
 use Rattle.writing.specs.Writing.{telegramOf}
 use Rattle.characters.specs.Marks.{longest}
-use Rattle.deciding.specs.Deciding.{poll, handle, repeats, rulingIn}
-use Rattle.replying.specs.Replying.{Origin, queue, key, keyOn}
-use Rattle.deskhearing.specs.Answers.{handled}
-use Rattle.replying.specs.Waiting.{blank}
+use Rattle.desk.specs.Deciding.{poll, handle, repeats, rulingIn}
+use Rattle.desk.specs.Replying.{Origin, queue, key, keyOn}
+use Rattle.desk.specs.Heard.{handled}
+use Rattle.desk.specs.Waiting.{blank}
 use Rattle.desk.specs.Panel.{losesLine}
-use Rattle.deskqueue.specs.Queue.{oldest}
-use Rattle.deskhearing.specs.Hearing.{Hearing, ruling, hearOf}
-use Rattle.replying.specs.declared.waiting.Waiting.{Waiting}
+use Rattle.desk.specs.Queue.{oldest}
+use Rattle.desk.specs.Hearing.{Hearing, ruling, hearOf}
+use Rattle.desk.specs.declared.waiting.Waiting.{Waiting}
 use Rattle.desk.specs.declared.state.Desk.{Desk}
 use Rattle.conduct.specs.Desk.Calls.{Fine, noted}
 

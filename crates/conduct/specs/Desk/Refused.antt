@@ -5,7 +5,7 @@ use Prim.Native.Nat.{ℕ}
 use Rattle.records.specs.declared.records.Record.{Record}
 use Rattle.desk.specs.Answers.{Done}
 use Rattle.desk.specs.Panel.{tickOf, queueOf, setOf, keyOf}
-use Rattle.deskhearing.specs.Hearing.{Hearing, hearOf}
+use Rattle.desk.specs.Hearing.{Hearing, hearOf}
 use Rattle.desk.specs.declared.state.Desk.{Desk}
 use Rattle.conduct.specs.Desk.Calls.{did, heard, refusedBy}
 

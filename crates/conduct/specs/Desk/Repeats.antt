@@ -11,12 +11,12 @@ use Rattle.records.specs.Answers.{accepted}
 use Rattle.records.specs.Answers as w
 use Rattle.reading.specs.Reading.{readingOf}
 use Rattle.characters.specs.Marks.{longest}
-use Rattle.deciding.specs.Deciding.{What, contents, matterIn}
-use Rattle.deciding.specs.Deciding as r
-use Rattle.deskhearing.specs.Answers.{repeat}
+use Rattle.desk.specs.Deciding.{What, contents, matterIn}
+use Rattle.desk.specs.Deciding as r
+use Rattle.desk.specs.Heard.{repeat}
 use Rattle.desk.specs.State.{storedOf}
 use Rattle.desk.specs.Panel.{losesLine}
-use Rattle.deskhearing.specs.Hearing.{Hearing, ruling, hearOf}
+use Rattle.desk.specs.Hearing.{Hearing, ruling, hearOf}
 use Rattle.desk.specs.declared.state.Desk.{Desk}
 use Rattle.conduct.specs.Desk.Calls.{Fine, noted}
 

@@ -4,17 +4,17 @@ use mathlib.Core.Bool.{Bool, true}
 use mathlib.Core.List.{List}
 use Prim.Native.Nat.{ℕ, _≤_}
 use lib.ListN.{length, take}
-use Rattle.lines.specs.Lines.{isLine}
+use Rattle.forms.specs.Lines.{isLine}
 use Rattle.forms.specs.Forms.{bySlave}
 use Rattle.records.specs.Records.{typeOf}
 use Rattle.records.specs.declared.records.Record.{Record}
 use Rattle.values.specs.Values.{permitsRecord}
 use Rattle.writing.specs.Writing.{telegramOf}
 use Rattle.characters.specs.Marks.{shortest, longest}
-use Rattle.replying.specs.Replying.{Origin}
-use Rattle.deskhearing.specs.Answers.{handled}
+use Rattle.desk.specs.Replying.{Origin}
+use Rattle.desk.specs.Heard.{handled}
 use Rattle.desk.specs.State.{storedOf, startOf}
-use Rattle.deskhearing.specs.Hearing.{hearOf}
+use Rattle.desk.specs.Hearing.{hearOf}
 use Rattle.desk.specs.declared.state.Desk.{Desk}
 use Rattle.conduct.specs.Desk.Calls.{Call, run, Fine}
 

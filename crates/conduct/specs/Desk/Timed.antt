@@ -7,10 +7,10 @@ use Prim.Native.Nat.{ℕ, _^_, _≤_, _<_}
 use Rattle.records.specs.declared.records.Record.{Record}
 use Rattle.records.specs.Answers.{accepted}
 use Rattle.reading.specs.Reading.{readingOf}
-use Rattle.deciding.specs.Deciding.{repeat, handle, matterIn}
+use Rattle.desk.specs.Deciding.{repeat, handle, matterIn}
 use Rattle.desk.specs.Answers.{done, lost}
 use Rattle.desk.specs.Panel.{withGood, tickOf}
-use Rattle.deskhearing.specs.Hearing.{ruling}
+use Rattle.desk.specs.Hearing.{ruling}
 use Rattle.desk.specs.declared.state.Desk.{Desk}
 use Rattle.conduct.specs.Times.{clockAfter}
 use Rattle.conduct.specs.Desk.Calls.{Fine, noted}

@@ -3,12 +3,12 @@ use mathlib.Core.Bool.{Bool, true, false}
 use mathlib.Core.List.{List, [], _∷_}
 use Prim.Native.Nat.{ℕ}
 use Rattle.records.specs.declared.records.Record.{Record}
-use Rattle.masterrules.specs.Rules.{pollOf}
+use Rattle.master.specs.Rules.{pollOf}
 use Rattle.master.specs.declared.state.Master.{Master}
 use Rattle.master.specs.Answers.{Which, poll, Ground, silence, rejected}
 use Rattle.master.specs.Answers as t
 use Rattle.master.specs.Sending.{Behind, offerOf, tickOf}
-use Rattle.masterhearing.specs.Hearing.{hearOf}
+use Rattle.master.specs.Hearing.{hearOf}
 
 -- a call: its time, what it brings, and the output that it may fill
 pub data Call : Type 0 where

@@ -11,14 +11,14 @@ use Rattle.records.specs.Records.{typeOf}
 use Rattle.records.specs.declared.records.Record.{Record}
 use Rattle.records.specs.Answers.{firstFault, good, fails, accepted}
 use Rattle.records.specs.Answers as w
-use Rattle.framing.specs.Frame.{frameChecks}
+use Rattle.reading.specs.Frame.{frameChecks}
 use Rattle.reading.specs.Reading.{readingOf}
 use Rattle.clock.specs.Counters.{numberIn}
-use Rattle.masterrules.specs.Rules.{isFailure, permittedAnswer}
+use Rattle.master.specs.Rules.{isFailure, permittedAnswer}
 use Rattle.master.specs.declared.state.Master.{Master}
 use Rattle.master.specs.State.{isFree, inRanges, withLine, answeredState, answeredWith, givenUpState}
 use Rattle.master.specs.Sending.{Behind, sendingOf}
-use Rattle.masterhearing.specs.Hearing.{hearOf}
+use Rattle.master.specs.Hearing.{hearOf}
 use Rattle.master.specs.Answers as t
 use Rattle.conduct.specs.Times.{clockAfter}
 use Rattle.conduct.specs.Master.Timed.{Busy}

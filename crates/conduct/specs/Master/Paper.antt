@@ -10,13 +10,13 @@ use lib.Dec.{eqb}
 use Rattle.laws.specs.Truth.{both, either, oneOf, every, All}
 use Rattle.laws.specs.Text.{codes}
 use Rattle.characters.specs.Marks.{lf, cr}
-use Rattle.lines.specs.Lines.{lineNumbers}
+use Rattle.forms.specs.Lines.{lineNumbers}
 use Rattle.forms.specs.Forms.{byMaster, forms}
-use Rattle.formrows.specs.declared.rows.Form.{Form}
+use Rattle.forms.specs.declared.rows.Form.{Form}
 use Rattle.records.specs.declared.records.Record.{Record}
 use Rattle.records.specs.declared.records.Record.the-variants.{Request, Idling}
 use Rattle.writing.specs.Writing.{telegramOf}
-use Rattle.masterrules.specs.Rules.{pollOf, permittedAnswer}
+use Rattle.master.specs.Rules.{pollOf, permittedAnswer}
 
 -- the telegram of a text, with LF and CR
 abbrev pub telegram : String → List ℕ

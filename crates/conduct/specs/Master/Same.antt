@@ -5,7 +5,7 @@ use mathlib.Core.Bool.{true}
 use mathlib.Core.List.{List, [], _∷_}
 use Prim.Native.Nat.{ℕ}
 use lib.ListN.{take, drop}
-use Rattle.lines.specs.Lines.{isLine}
+use Rattle.forms.specs.Lines.{isLine}
 use Rattle.records.specs.declared.records.Record.{Record}
 use Rattle.writing.specs.Writing.{telegramOf}
 use Rattle.master.specs.declared.state.Master.{Master}

@@ -7,11 +7,11 @@ use Prim.Native.Char.{code}
 use lib.ListN.{length, replicate}
 use Rattle.characters.specs.Marks.{longest}
 use Rattle.records.specs.declared.records.Record.the-variants.{Approved, Train}
-use Rattle.masterrules.specs.Rules.{pollOf}
+use Rattle.master.specs.Rules.{pollOf}
 use Rattle.master.specs.declared.state.Master.{Master}
 use Rattle.master.specs.State.{isFree, inRanges, started, withLine, givenUpState}
 use Rattle.master.specs.Sending.{Behind, t0Limit, sendingOf, offerOf, tickOf}
-use Rattle.masterhearing.specs.Hearing.{hearOf}
+use Rattle.master.specs.Hearing.{hearOf}
 use Rattle.master.specs.Answers as t
 use Rattle.conduct.specs.Times.{clockAfter}
 use Rattle.conduct.specs.Master.Paper.{telegram}

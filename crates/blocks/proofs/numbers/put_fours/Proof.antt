@@ -6,7 +6,7 @@ use mathlib.Core.List.{List}
 use lib.ListN.{length, drop, getD}
 use Rattle.text.specs.Putting.{puts}
 use Rattle.blocks.specs.Layout.{joined}
-use Rattle.blocks.specs.Numbers.{fourBytes}
+use Rattle.text.specs.Fours.{fourBytes}
 use Rattle.text.proofs.Puts.{onward, put-all}
 use Rattle.blocks.proofs.Laid.{one-here, none-here}
 use borrow.Author.Needs.{needs}

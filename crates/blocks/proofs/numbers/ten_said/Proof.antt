@@ -4,7 +4,7 @@ use mathlib.Core.List.{List}
 use Prim.Native.Nat.{ℕ, _*_, _≤_, _<_, _-_}
 use native.Mathlib.Omega.{arith}
 use lib.ListN.{length, take, drop, getD, length-set}
-use Rattle.blocks.specs.Numbers.{fourSaid}
+use Rattle.text.specs.Fours.{fourSaid}
 use Rattle.blocks.proofs.Laid.{taken, all-taken}
 use borrow.Author.Needs.{needs}
 use Rattle.blocks.proofs.numbers.ten_said.Statement.{statement}

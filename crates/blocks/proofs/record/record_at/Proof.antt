@@ -2,7 +2,7 @@
 use mathlib.Core.Path.{ap, ap₂, _∙_}
 use Rattle.records.specs.Records.{recordOf}
 use Rattle.blocks.specs.Layout.{each}
-use Rattle.blocks.specs.Numbers.{fourSaid}
+use Rattle.text.specs.Fours.{fourSaid}
 use Rattle.blocks.specs.Record.{recordAt}
 use borrow.Author.Needs.{needs}
 use Rattle.blocks.proofs.record.record_at.Statement.{statement}

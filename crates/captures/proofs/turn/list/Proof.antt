@@ -3,8 +3,8 @@ use mathlib.Core.Path.{sym, ap, _∙_}
 use native.Mathlib.Omega.{arith}
 use denote.Ref.{now}
 use Rattle.records.specs.Answers.{faultOf, written}
-use Rattle.lister.specs.declared.state.Lister.{Lister}
-use Rattle.lister.proofs.Checks.{held-within, in-range}
+use Rattle.captures.specs.declared.lister.Lister.{Lister}
+use Rattle.captures.proofs.Checks.{held-within, in-range}
 use Rattle.captures.specs.Turn.{Turned, beside}
 use Rattle.captures.proofs.Turning.{refused-turn, tasked}
 use borrow.Author.Needs.{needs}

@@ -5,9 +5,9 @@ use mathlib.Core.List.{List}
 use Prim.Native.Nat.{_≤_, _-_}
 use native.Mathlib.Omega.{arith}
 use lib.ListN.{length, drop}
-use Rattle.forms.proofs.Rows.{hit, miss, none-left}
+use Rattle.forms.proofs.RowsOf.{hit, miss, none-left}
 use Rattle.forms.specs.Forms.{forms, testOf, lookIn}
-use Rattle.formrows.specs.declared.rows.Form.{Form}
+use Rattle.forms.specs.declared.rows.Form.{Form}
 use Rattle.forms.proofs.table.look.Statement.{statement}
 use Rattle.forms.proofs.table.look.Tie as tie
 

@@ -2,7 +2,6 @@
 use Rattle.logs.proofs.Found.{behind-mark}
 use Rattle.logs.specs.Reader.{recordIn}
 use denote.Ref.{now}
-use Rattle.logs.specs.Reader.{recordIn}
 use Rattle.laws.proofs.Tests.{tests}
 use borrow.Author.Needs.{needs}
 use Rattle.logs.proofs.reader.record_in.Statement.{statement}

@@ -5,8 +5,8 @@ use Rattle.laws.proofs.Truths.{not-true, not-false}
 use mathlib.Core.List.{List}
 use Prim.Native.Nat.{ℕ, _-_}
 use lib.ListN.{take, drop}
-use Rattle.framing.specs.Frame.{fieldOf}
-use Rattle.reading.specs.Field.{outside}
+use Rattle.reading.specs.Frame.{fieldOf}
+use Rattle.reading.specs.Contents.{outside}
 use Rattle.reading.proofs.Contents.{looked-in, strange-type, strange-byte, on-form}
 use borrow.Author.Needs.{needs}
 use Rattle.reading.proofs.reading.contents.Statement.{statement}

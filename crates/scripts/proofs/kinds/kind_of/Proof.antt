@@ -1,6 +1,6 @@
 -- `kind_of` finds the number of the first word. Assumes nothing.
 use Rattle.scripts.specs.Kinds.{kindNumbered, kindOf}
-use Rattle.words.specs.Fields.{wordPlace}
+use Rattle.text.specs.Fields.{wordPlace}
 use Rattle.laws.specs.Text.{codes}
 use Prim.Native.Nat.{ℕ}
 use mathlib.Core.List.{List}

@@ -1,6 +1,6 @@
 -- `meant` puts what the text means. Assumes nothing.
 use Rattle.scripts.proofs.Filled.{same-text}
-use Rattle.frametexts.specs.Frames.{meantBy}
+use Rattle.text.specs.Frames.{meantBy}
 use mathlib.Core.Path.{ap}
 use borrow.Author.Needs.{needs}
 use Rattle.scripts.proofs.meanings.meant.Statement.{statement}

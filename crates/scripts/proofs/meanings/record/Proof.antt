@@ -1,5 +1,5 @@
 -- `record` takes the row from the word on. Assumes nothing.
-use Rattle.items.specs.Items.{recordSaid}
+use Rattle.text.specs.Items.{recordSaid}
 use mathlib.Core.Path.{ap, _∙_}
 use borrow.Author.Needs.{needs}
 use Rattle.scripts.proofs.meanings.record.Statement.{statement}

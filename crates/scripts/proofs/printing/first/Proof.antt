@@ -1,6 +1,6 @@
 -- `first` puts nothing, or its parts one behind the other. Assumes nothing.
 use Rattle.scripts.proofs.Filled.{same-text}
-use Rattle.frametexts.specs.Frames.{shownAs}
+use Rattle.text.specs.Frames.{shownAs}
 use mathlib.Core.Path.{ap}
 use borrow.Author.Tests.{ne-eqb}
 use Rattle.text.specs.Putting.{puts}

@@ -1,5 +1,5 @@
 -- `writing::writing::put_head` meets its contract. Assumes nothing.
-use Rattle.framing.proofs.Framing.{count-two}
+use Rattle.reading.proofs.Framing.{count-two}
 use Rattle.writing.proofs.Put.{five}
 use lib.ListN.{length-set}
 use Prim.Native.Nat.{ℕ, _+_}

@@ -1,6 +1,6 @@
 -- `writing::writing::put_packets` meets its contract. Assumes nothing.
 use Rattle.writing.proofs.Put.{packet-here}
-use Rattle.reading.specs.Field.{dataOf}
+use Rattle.reading.specs.Contents.{dataOf}
 use Rattle.forms.specs.Forms.{widthIn, widthOf, slotsIn, slotsOf}
 use lib.Seq.{take-all}
 use native.Mathlib.Nat.{zero-add}

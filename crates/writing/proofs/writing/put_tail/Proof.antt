@@ -1,5 +1,5 @@
 -- `writing::writing::put_tail` meets its contract. Assumes nothing.
-use Rattle.framing.proofs.Framing.{sum-two}
+use Rattle.reading.proofs.Framing.{sum-two}
 use Rattle.writing.proofs.Put.{three}
 use Prim.Native.Nat.{ℕ}
 use mathlib.Core.List.{List, [], _∷_, _++_}

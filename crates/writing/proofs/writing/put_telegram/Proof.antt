@@ -1,6 +1,6 @@
 -- `writing::writing::put_telegram` meets its contract. Assumes nothing.
-use Rattle.reading.specs.Field.{dataOf}
-use Rattle.framing.specs.Frame.{frameOf, tailText}
+use Rattle.reading.specs.Contents.{dataOf}
+use Rattle.reading.specs.Frame.{frameOf, tailText}
 use Rattle.forms.specs.Forms.{slotsOf, widthOf}
 use lib.ListN.{drop, length}
 use mathlib.Core.List.{[], _++_}

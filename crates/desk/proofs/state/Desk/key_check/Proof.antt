@@ -1,7 +1,7 @@
 -- `desk::state::Desk::key_check` meets its contract. Assumes nothing.
 use Rattle.desk.proofs.Calls.{key-state, key-line, key-value, key-good}
 use Rattle.laws.proofs.Truths.{not-true, not-false}
-use Rattle.lines.specs.declared.lines.Line.{Line}
+use Rattle.forms.specs.declared.lines.Line.{Line}
 use mathlib.Core.Path.{sym, ap, _∙_}
 use borrow.Author.Needs.{needs}
 use Rattle.desk.proofs.state.Desk.key_check.Statement.{statement}

@@ -4,7 +4,7 @@ use Rattle.desk.specs.declared.state.Desk.{Desk}
 use Rattle.desk.specs.Answers.{done, refused}
 use Rattle.records.specs.Refusals.{no}
 use mathlib.Core.Path.{_≡_, sym, ap, _∙_}
-use Rattle.lines.specs.Lines.{isLine}
+use Rattle.forms.specs.Lines.{isLine}
 use mathlib.Core.Bool.{true, false}
 use borrow.Author.Needs.{needs}
 use Rattle.desk.proofs.state.Desk.start.Statement.{statement}

@@ -2,7 +2,7 @@
 use mathlib.Core.Path.{ap, ap₂, _∙_}
 use Prim.Native.Nat.{ℕ}
 use Rattle.master.specs.State.{withOperation}
-use Rattle.masterrules.specs.Times.{operationAfter}
+use Rattle.master.specs.Times.{operationAfter}
 use borrow.Author.Needs.{needs}
 use Rattle.master.proofs.state.Master.answered_with.Statement.{statement}
 use Rattle.master.proofs.state.Master.answered_with.Tie as tie

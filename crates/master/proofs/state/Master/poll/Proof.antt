@@ -3,7 +3,7 @@ use mathlib.Core.Path.{_≡_, sym, ap, _∙_}
 use Rattle.laws.proofs.Truths.{not-true, not-false}
 use denote.Ref.{now}
 use Rattle.master.proofs.Ranges.{lined, numbered, poll-sendable, sendable-permits}
-use Rattle.masterrules.specs.Rules.{pollOf}
+use Rattle.master.specs.Rules.{pollOf}
 use Rattle.values.specs.Values.{permitsRecord}
 use mathlib.Core.Bool.{true}
 use Rattle.master.proofs.Sends.{stepped, no-poll, polled}

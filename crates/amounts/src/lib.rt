@@ -1,2 +1,0 @@
-// Amounts as rows say them (rule P9).
-pub mod amounts;

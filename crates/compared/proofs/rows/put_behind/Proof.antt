@@ -1,8 +1,0 @@
--- `put_behind` puts one text and then the other. Assumes nothing.
-use Rattle.text.proofs.Puts.{then}
-use borrow.Author.Needs.{needs}
-use Rattle.compared.proofs.rows.put_behind.Statement.{statement}
-use Rattle.compared.proofs.rows.put_behind.Tie as tie
-
-pub put-behind-spec : {M : Type 1} → statement M
-put-behind-spec = tie.close (tie.spec (λ c κs. search needs) (λ c κs. search needs) (λ c. search needs) (λ c. search then))

@@ -1,2 +1,0 @@
-pub mod Hexes
-pub mod Shown

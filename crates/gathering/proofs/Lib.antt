@@ -1,4 +1,0 @@
-pub mod Ranges
-pub mod Held
-pub mod Hits
-pub mod Answers

@@ -1,2 +1,0 @@
-// Gathering a telegram item by item.
-pub mod gather;

@@ -1,0 +1,31 @@
+-- Answers without a record leave the record block as it was. Assumes nothing.
+use mathlib.Core.Path.{_≡_, refl}
+use mathlib.Core.List.{List, [], _∷_}
+use Prim.Native.Nat.{ℕ}
+use types.Run.{OneOf, miss}
+use denote.Enum.Declared.{tagOf}
+use Rattle.desk.specs.Replying.{originOf}
+use Rattle.desk.specs.declared.replying.Source as s
+use Rattle.desk.proofs.replying.Source as st
+use Rattle.desk.specs.declared.heard.Heard as h
+use Rattle.desk.proofs.heard.Heard as ht
+use Rattle.desk.specs.Heard as d
+use Rattle.in656.specs.DeskCalls.{panelBlock, toldBlock}
+
+-- an answer that does not go with a record for the panel
+pub other-source : (source : s.Source) (block : List ℕ) → OneOf (0 ∷ 1 ∷ 2 ∷ 4 ∷ 5 ∷ 6 ∷ []) (tagOf st.the-type source) → block ≡ panelBlock (originOf source) block
+other-source s.the-variants.Requested block h = refl
+other-source s.the-variants.Queue block h = refl
+other-source (s.the-variants.Key b) block h = refl
+other-source (s.the-variants.Panel rec) block h = absurd (miss (0 ∷ 1 ∷ 2 ∷ 4 ∷ 5 ∷ 6 ∷ []) 3 tt h)
+other-source (s.the-variants.Contents x) block h = refl
+other-source s.the-variants.NotMaster block h = refl
+other-source s.the-variants.NothingSet block h = refl
+
+-- a hearing of the desk that handles nothing
+pub other-heard : (answer : h.Heard) (block : List ℕ) → OneOf (0 ∷ 1 ∷ 2 ∷ 3 ∷ []) (tagOf ht.the-type answer) → block ≡ toldBlock (d.toldOf answer) block
+other-heard (h.the-variants.Refused x) block k = refl
+other-heard (h.the-variants.Silent lost x) block k = refl
+other-heard (h.the-variants.Fault lost n) block k = refl
+other-heard (h.the-variants.Repeat n) block k = refl
+other-heard (h.the-variants.Handled lost source n) block k = absurd (miss (0 ∷ 1 ∷ 2 ∷ 3 ∷ []) 4 tt k)

@@ -1,0 +1,16 @@
+-- `key` meets its contract. Assumes nothing.
+use borrow.Author.Needs.{needs}
+use Rattle.in656.proofs.deskcalls.key.Statement.{statement}
+use Rattle.in656.proofs.deskcalls.key.Tie as tie
+
+returns : tie.Need-returns
+returns c =
+    let load = c .before .before .before .before .before .before .load in
+    let byte-or = c .before .before .before .before .before .byte-or in
+    let turn-key = c .before .before .before .before .turn-key in
+    rw (c .before .before .close .ensures, turn-key .ensures, byte-or .ensures, load .ensures)
+
+pub key-spec : {M : Type 1} → statement M
+key-spec =
+    tie.close
+    (tie.spec (λ c κs. search needs) (λ c κs. search needs) (λ c κs. search needs) (λ c κs. search needs) (λ c. search needs) returns)

@@ -1,0 +1,16 @@
+-- `queue` meets its contract. Assumes nothing.
+use borrow.Author.Needs.{needs}
+use Rattle.in656.proofs.deskcalls.queue.Statement.{statement}
+use Rattle.in656.proofs.deskcalls.queue.Tie as tie
+
+returns : tie.Need-returns
+returns c =
+    let load = c .before .before .before .before .before .before .load in
+    let meaning = c .before .before .before .before .before .meaning in
+    let queue = c .before .before .before .before .queue in
+    rw (c .before .before .close .ensures, queue .ensures, meaning .ensures, load .ensures)
+
+pub queue-spec : {M : Type 1} → statement M
+queue-spec =
+    tie.close
+    (tie.spec (λ c κs. search needs) (λ c κs. search needs) (λ c κs. search needs) (λ c κs. search needs) (λ c. search needs) returns)

@@ -1,0 +1,16 @@
+-- `set` meets its contract. Assumes nothing.
+use borrow.Author.Needs.{needs}
+use Rattle.in656.proofs.deskcalls.set.Statement.{statement}
+use Rattle.in656.proofs.deskcalls.set.Tie as tie
+
+returns : tie.Need-returns
+returns c =
+    let load = c .before .before .before .before .before .before .load in
+    let meaning = c .before .before .before .before .before .meaning in
+    let set = c .before .before .before .before .set in
+    rw (c .before .before .close .ensures, set .ensures, meaning .ensures, load .ensures)
+
+pub set-spec : {M : Type 1} → statement M
+set-spec =
+    tie.close
+    (tie.spec (λ c κs. search needs) (λ c κs. search needs) (λ c κs. search needs) (λ c κs. search needs) (λ c. search needs) returns)

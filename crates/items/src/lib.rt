@@ -1,2 +1,0 @@
-// Refusals, values and records as rows say them (rule P9).
-pub mod items;

@@ -1,3 +1,0 @@
-pub mod Checks
-pub mod Named
-pub mod Tasks

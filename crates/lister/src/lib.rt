@@ -1,3 +1,0 @@
-// The state of a listing between two turns.
-pub mod line;
-pub mod state;

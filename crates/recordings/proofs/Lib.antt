@@ -1,0 +1,9 @@
+pub mod Sent
+pub mod Cut
+pub mod Step
+pub mod Parts
+pub mod Checks
+pub mod Turning
+pub mod Stands
+pub mod EachTurn
+pub mod Opened

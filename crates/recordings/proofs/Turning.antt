@@ -1,0 +1,97 @@
+-- A turn of a replay, in the order of its tests. Assumes nothing.
+use mathlib.Core.Path.{_≡_, sym, ap, _∙_}
+use mathlib.Core.List.{List}
+use Prim.Native.Nat.{ℕ, _+_, _-_, _≤_}
+use native.Mathlib.Omega.{arith}
+use native.Mathlib.Nat.{zero-add}
+use lib.ListN.{length, take, getD, length-take}
+use borrow.Rule.Slice.PartMut.{midOf, putMid}
+use borrow.Author.Tests.{eq-eqb, ne-eqb}
+use Rattle.records.specs.Refusals.{No}
+use Rattle.records.specs.Answers.{good, fails, Outcome, written, refused}
+use Rattle.text.specs.Putting.{puts, placed}
+use Rattle.captures.specs.Listing.{wrapped}
+use Rattle.pieces.specs.Tails.{tailPut}
+use Rattle.pieces.specs.Line.{badLine, lineNamed}
+use Rattle.captures.specs.declared.lister.Wants.{Wants}
+use Rattle.captures.specs.declared.lister.Wants.the-variants.{Read, End}
+use Rattle.recordings.specs.declared.replay.part.Replayed.{Replayed}
+use Rattle.recordings.specs.Replay.Texts.{rowRoom, cut, refusedText}
+use Rattle.recordings.specs.Replay.Part.{partOf}
+use Rattle.recordings.proofs.Cut.{puts-cut, at-part, part-length}
+use Rattle.recordings.specs.declared.replay.state.Replayer.{Replayer}
+use Rattle.recordings.specs.Replay.State.{begunOn, turnFault, wantsFor}
+use Rattle.recordings.specs.Replay.Turn.{Turned, ended, openedOn, openedOf, lastOf, beside, carried, carriedOn, wantedOf, turnOf}
+
+module _ (m : Replayer) (out : List ℕ) where
+  pub none-held : (l : Replayer) → m .held ≡ 0 → l ≡ ended m → (l, (written 0, out)) ≡ lastOf m out
+  unfolding lastOf
+  none-held l h e = rw (e, eq-eqb (m .held) 0 h)
+
+  pub some-held : (l : Replayer) (k n : ℕ) (x : List ℕ) → (m .held ≡ 0 → ⊥) → rowRoom ≤ length out → k ≡ rowRoom → l ≡ ended m → (n, x) ≡ puts (refusedText 20 (m .base)) 0 (midOf 0 k out)
+      → (l, (written n, putMid 0 k out x)) ≡ lastOf m out
+  unfolding lastOf placed
+  some-held l k n x h room is e p =
+      let t = refusedText 20 (m .base) in
+      let g : length (midOf 0 k out) ≡ rowRoom = part-length out 0 k (omega (arith, is, room)) ∙ is in
+      let q : (n, x) ≡ placed (cut (refusedText 20 (m .base))) 0 (midOf 0 k out) =
+      p ∙ (puts-cut (refusedText 20 (m .base)) (midOf 0 k out) ∙ ap (λ (i : ℕ). placed (take i (refusedText 20 (m .base))) 0 (midOf 0 k out)) g) in
+      let a : n ≡ length (cut (refusedText 20 (m .base))) = ap (λ (y : ℕ × List ℕ). y .0) q ∙ zero-add (length (cut (refusedText 20 (m .base)))) in
+      let b : putMid 0 k out x ≡ placed (cut (refusedText 20 (m .base))) 0 out .1 =
+      ap (λ (y : ℕ × List ℕ). putMid 0 k out (y .1)) q
+      ∙ at-part (cut (refusedText 20 (m .base))) out 0 k (omega (arith, is, length-take rowRoom (refusedText 20 (m .base)))) (omega (arith, is, room)) in
+      rw (e, ne-eqb (m .held) 0 h, a)
+      (ap {B = Replayer × (Outcome × List ℕ)} (λ (y : List ℕ). (ended m, (written (length (cut (refusedText 20 (m .base)))), y))) b)
+
+-- a part of n bytes, and what is kept of them
+pub kept : (m : Replayer) (buf : List ℕ) (n : ℕ) (out s : List ℕ) (p : Replayed) (x : List ℕ) (wants : Wants) (base held k : ℕ) (b : List ℕ)
+    → s ≡ take n buf → (p, x) ≡ partOf (m .desk) (m .ordinal) (m .base) s out → (k, b) ≡ tailPut (p .next) n buf → wants ≡ wantsFor (p .stop)
+    → base ≡ wrapped (m .base + p .next) → held ≡ n - p .next
+    → (record { desk = p .desk; ordinal = p .ordinal; base = base; held = held; wants = wants }, (written (p .filled), (b, x))) ≡ carriedOn m buf n out
+unfolding carriedOn carried
+kept m buf n out s p x wants base held k b e h t w o l =
+    let q : b ≡ tailPut (p .next) n buf .1 = ap (λ (y : ℕ × List ℕ). y .1) t in
+    rw (← e, ← h, w, o, l, q)
+
+module _ (m : Replayer) (buf : List ℕ) (got : ℕ) (out : List ℕ) where
+  pub refused-turn : (x : No) → fails x ≡ turnFault (m .held) (length buf) got (length out) → (m, (refused x, (buf, out))) ≡ turnOf m buf got out
+  unfolding turnOf
+  refused-turn x h = rw (← h)
+
+  pub wanted : (w : Wants) (t : Turned) → good ≡ turnFault (m .held) (length buf) got (length out) → m .wants ≡ w → t ≡ wantedOf w m buf got out → t ≡ turnOf m buf got out
+  unfolding turnOf
+  wanted w t f g e = rw (← f) (e ∙ ap (λ (v : Wants). wantedOf v m buf got out) (sym g))
+
+  -- where bytes were read, and where none were
+  pub some-read : (t : Turned) → (got ≡ 0 → ⊥) → t ≡ carriedOn m buf (m .held + got) out → t ≡ wantedOf Read m buf got out
+  some-read t h e = rw (ne-eqb got 0 h) e
+
+  pub none-read : (t : Replayer × (Outcome × List ℕ)) → got ≡ 0 → t ≡ lastOf m out → beside buf t ≡ wantedOf Read m buf got out
+  none-read t h e = rw (eq-eqb got 0 h) (ap (beside buf) e)
+
+  -- a turn at its end
+  pub none-wanted : (l : Replayer) → l ≡ ended m → (l, (written 0, (buf, out))) ≡ wantedOf End m buf got out
+  none-wanted l e = rw e
+
+-- the input's first byte names a line, or none
+module _ (first out : List ℕ) (byte line : ℕ) (b : byte ≡ getD first 0 0) (e : line ≡ lineNamed byte) where
+  same-line : openedOn line out ≡ openedOf first out
+  same-line = ap (λ (i : ℕ). openedOn i out) (e ∙ ap lineNamed b)
+
+  pub unnamed-open : (m l : Replayer) (text : List ℕ) (n : ℕ) (x : List ℕ) → line ≡ 0 → text ≡ badLine → (n, x) ≡ puts text 0 out → m ≡ begunOn line → l ≡ ended m
+      → (l, (written n, x)) ≡ openedOf first out
+  unfolding openedOn
+  unnamed-open m l text n x z t p q f = go ∙ same-line
+    where
+      put : (n, x) ≡ puts badLine 0 out
+      put = p ∙ ap (λ (u : List ℕ). puts u 0 out) t
+
+      go : (l, (written n, x)) ≡ openedOn line out
+      go = rw (eq-eqb line 0 z, f, q) (ap {B = Replayer × (Outcome × List ℕ)} (λ (y : ℕ × List ℕ). (ended (begunOn line), (written (y .0), y .1))) put)
+
+  pub named-open : (m : Replayer) → (line ≡ 0 → ⊥) → m ≡ begunOn line → (m, (written 0, out)) ≡ openedOf first out
+  unfolding openedOn
+  named-open m z q = go ∙ same-line
+    where
+      go : (m, (written 0, out)) ≡ openedOn line out
+      go = rw (ne-eqb line 0 z, q)

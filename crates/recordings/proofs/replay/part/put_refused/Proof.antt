@@ -1,0 +1,13 @@
+-- `put_refused` puts the refusal and the row's end. Assumes nothing.
+use Rattle.recordings.specs.Replay.Texts.{refusedText}
+use Rattle.text.proofs.Puts.{then}
+use borrow.Author.Needs.{needs}
+use Rattle.recordings.proofs.replay.part.put_refused.Statement.{statement}
+use Rattle.recordings.proofs.replay.part.put_refused.Tie as tie
+
+returns : tie.Need-returns
+unfolding refusedText
+returns c = search then
+
+pub put-refused-spec : {M : Type 1} → statement M
+put-refused-spec = tie.close (tie.spec (λ c κs. search needs) (λ c κs. search needs) (λ c. search needs) returns)

@@ -1,0 +1,9 @@
+-- The replay of a log by a fresh desk (rules Q9 to Q14). Assumes nothing.
+pub mod Rows
+pub mod Texts
+pub mod Part
+pub mod Pieces
+pub mod State
+pub mod Turn
+pub mod Whole
+pub mod Runs

@@ -1,4 +1,0 @@
-pub mod State
-pub mod Turn
-pub mod Replay
-pub mod Runs

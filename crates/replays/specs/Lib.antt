@@ -1,3 +1,0 @@
-pub mod Texts
-pub mod Part
-pub mod Pieces

@@ -1,2 +1,0 @@
-// The replay of the records of a slice (rules Q9 to Q14).
-pub mod part;

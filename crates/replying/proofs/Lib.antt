@@ -1,3 +1,0 @@
-pub mod Keys
-pub mod Permitted
-pub mod Places

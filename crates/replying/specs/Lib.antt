@@ -1,3 +1,0 @@
-pub mod Fitting
-pub mod Replying
-pub mod Waiting

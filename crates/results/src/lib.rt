@@ -1,6 +1,0 @@
-// What every call of the C face answers, as numbers (include/in656.h).
-pub mod desks;
-pub mod log;
-pub mod masters;
-pub mod result;
-pub mod telegrams;

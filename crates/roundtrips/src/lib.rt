@@ -1,1 +1,0 @@
-// Both round trips of reading and writing. Theorems only.

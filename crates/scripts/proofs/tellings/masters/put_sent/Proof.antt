@@ -1,0 +1,16 @@
+-- `put_sent` puts its parts one behind the other. Assumes nothing.
+use Rattle.scripts.specs.Tellings.Masters.{sentText}
+use Rattle.text.proofs.Puts.{then}
+use borrow.Author.Needs.{needs}
+use Rattle.scripts.proofs.tellings.masters.put_sent.Statement.{statement}
+use Rattle.scripts.proofs.tellings.masters.put_sent.Tie as tie
+
+returns : tie.Need-returns
+unfolding sentText
+returns c = search then
+
+pub put-sent-spec : {M : Type 1} → statement M
+put-sent-spec =
+    tie.close
+    (tie.spec
+    (λ c κs. search needs) (λ c κs. search needs) (λ c. search needs) (λ c κs. search needs) (λ c κs. search needs) (λ c. search needs) returns)

@@ -1,0 +1,41 @@
+-- Which call a row of the desk names (docs/SCENES.md). Assumes nothing.
+use mathlib.Core.Bool.{cond}
+use mathlib.Core.List.{List}
+use Prim.Native.Nat.{ℕ}
+use lib.Dec.{eqb}
+use Rattle.laws.specs.Text.{codes}
+use Rattle.text.specs.Fields.{wordOf, wordPlace}
+use Rattle.scripts.specs.declared.desks.calls.Quiet as q
+use Rattle.scripts.specs.declared.desks.calls.Field as f
+use Rattle.scripts.specs.declared.desks.calls.Call.{Call}
+use Rattle.scripts.specs.declared.desks.calls.Call as c
+
+-- by the number of a field's word; a row that alters no field names no call
+unfoldable pub alterNumbered : ℕ → Call
+alterNumbered n =
+    cond (eqb n 0) (c.the-variants.Alter f.the-variants.Line)
+    (cond (eqb n 1) (c.the-variants.Alter f.the-variants.Good)
+    (cond (eqb n 2) (c.the-variants.Alter f.the-variants.Last)
+    (cond (eqb n 3) (c.the-variants.Alter f.the-variants.Kept)
+    (cond (eqb n 4) (c.the-variants.Alter f.the-variants.Queued)
+    (cond (eqb n 5) (c.the-variants.Alter f.the-variants.Key)
+    c.the-variants.Unknown)))))
+
+-- by the numbers of a call's word and of a field's word
+unfoldable pub callNumbered : ℕ → ℕ → Call
+callNumbered n field =
+    cond (eqb n 0) (c.the-variants.Quiet q.the-variants.Start)
+    (cond (eqb n 1) (c.the-variants.Quiet q.the-variants.Tick)
+    (cond (eqb n 2) (c.the-variants.Quiet q.the-variants.Queue)
+    (cond (eqb n 3) (c.the-variants.Quiet q.the-variants.Set)
+    (cond (eqb n 4) (c.the-variants.Quiet q.the-variants.Key)
+    (cond (eqb n 5) c.the-variants.Hear
+    (cond (eqb n 6) (alterNumbered field)
+    (cond (eqb n 7) c.the-variants.Show
+    c.the-variants.Unknown)))))))
+
+unfoldable pub callOf : List ℕ → Call
+callOf row =
+    callNumbered
+    (wordPlace (codes "start tick queue set key hear alter show") 8 (wordOf 1 row))
+    (wordPlace (codes "line good last kept queued key") 6 (wordOf 2 row))

@@ -1,0 +1,5 @@
+-- Rows of the master. Assumes nothing.
+pub mod Printing
+pub mod Calls
+pub mod Altering
+pub mod Behind

@@ -1,0 +1,64 @@
+// Which call a row of the master names.
+ghost use mathlib.Core.Path.{_≡_};
+ghost use Rattle.scripts.specs.Masters.Calls.{alterNumbered, callNumbered, callOf};
+use text::fields::word;
+use text::fields::word_place;
+
+// The calls that may send.
+pub enum Sends {
+    Tick,
+    Offer,
+    Hear,
+}
+
+// The numbers of the state that a row may alter.
+pub enum Field {
+    Line,
+    Number,
+    Count,
+    Operation,
+}
+
+pub enum Call {
+    Start,
+    Sends(Sends),
+    Alter(Field),
+    Show,
+    Unknown,
+}
+
+// By the number of a field's word among those of the fields.
+fn alter_numbered(n: usize) -> Call
+    ensures { λ r. ⌜ r ≡ alterNumbered n ⌝ }
+{
+    match n {
+        0 => Call::Alter(Field::Line),
+        1 => Call::Alter(Field::Number),
+        2 => Call::Alter(Field::Count),
+        3 => Call::Alter(Field::Operation),
+        _ => Call::Unknown,
+    }
+}
+
+// By the numbers of a call's word and of a field's word.
+fn call_numbered(n: usize, field: usize) -> Call
+    ensures { λ r. ⌜ r ≡ callNumbered n field ⌝ }
+{
+    match n {
+        0 => Call::Start,
+        1 => Call::Sends(Sends::Tick),
+        2 => Call::Sends(Sends::Offer),
+        3 => Call::Sends(Sends::Hear),
+        4 => alter_numbered(field),
+        5 => Call::Show,
+        _ => Call::Unknown,
+    }
+}
+
+pub fn call_of(row: &[u8]) -> Call
+    ensures { λ r. ⌜ r ≡ callOf (now (row .entry)) ⌝ }
+{
+    let n = word_place(b"start tick offer hear alter show", 6, word(row, 1));
+    let field = word_place(b"line number count operation", 4, word(row, 2));
+    call_numbered(n, field)
+}

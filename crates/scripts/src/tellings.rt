@@ -1,0 +1,4 @@
+// What the calls of each end answer, in words.
+pub mod desks;
+pub mod masters;
+pub mod sources;

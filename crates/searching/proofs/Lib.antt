@@ -1,5 +1,0 @@
-pub mod Steps
-pub mod Openings
-pub mod Looks
-pub mod First
-pub mod Looked

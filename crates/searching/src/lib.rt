@@ -1,2 +1,0 @@
-// The search for the next telegram over a lent slice.
-pub mod search;
