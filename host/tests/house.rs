@@ -1,4 +1,4 @@
-//! The repository itself: its parts, their drawing, and the length of its files.
+//! The repository itself: its parts, their drawings, and the length of its files.
 
 use std::collections::{BTreeMap, BTreeSet};
 use std::path::{Path, PathBuf};
@@ -63,41 +63,77 @@ fn each_crate_has_its_folder() {
     assert_eq!(folders, listed().into_keys().collect());
 }
 
-/// The drawing has a node for each crate, and an edge for each use that does not follow from other edges.
+/// The groups of crates.txt: each heading with the crates below it.
+fn groups() -> Vec<(String, BTreeSet<String>)> {
+    let mut found: Vec<(String, BTreeSet<String>)> = Vec::new();
+    for line in text("crates.txt").lines() {
+        if let Some(heading) = line.strip_prefix("# ").filter(|h| !h.ends_with('.')) {
+            found.push((heading.to_string(), BTreeSet::new()));
+        } else if let (Some((name, _)), Some(last)) = (line.split_once(':'), found.last_mut()) {
+            last.1.insert(name.to_string());
+        }
+    }
+    found
+}
+
+/// What stands between the two marks of a drawing.
+fn drawing<'a>(page: &'a str, name: &str) -> &'a str {
+    let mark = format!("<!-- tools/drawing.py: {name} -->");
+    let behind = page.split(mark.as_str()).nth(1).expect(name);
+    let end = behind.split("<!-- end of the drawing -->").next();
+    end.expect("its end")
+}
+
+/// The first picture has every group with its crates; each group's own has a box for each of its crates, and an arrow for
+/// each use inside the group that does not follow from other arrows; and each crate has its row in a table.
 #[test]
-fn the_drawing_is_of_crates_txt() {
+fn each_crate_is_drawn_in_its_group() {
     let parts = listed();
     let page = text("docs/ARCHITECTURE.md");
-    let drawing = page
-        .split("drawn by tools/drawing.py")
-        .nth(1)
-        .expect("its mark");
-    let drawing = drawing
-        .split("<!-- end of the drawing -->")
-        .next()
-        .expect("its end");
-    let (mut nodes, mut edges) = (BTreeSet::new(), BTreeSet::new());
-    for line in drawing.lines().filter(|l| l.starts_with("    ")) {
-        match line.split_once("-->") {
-            Some((a, b)) => edges.insert((a.trim().to_string(), b.trim().to_string())),
-            None => nodes.insert(
-                line.trim()
-                    .split(['[', '('])
-                    .next()
-                    .unwrap_or("")
-                    .to_string(),
-            ),
-        };
+    let groups = groups();
+    let all: BTreeSet<_> = groups.iter().flat_map(|(_, names)| names.clone()).collect();
+    assert_eq!(all, parts.keys().cloned().collect());
+    let first = drawing(&page, "the groups").replace("<br>", " ");
+    for (group, names) in &groups {
+        let node = first
+            .lines()
+            .find(|l| l.contains(&format!("<b>{group}</b>")));
+        let node = node.unwrap_or_else(|| panic!("the first picture lacks {group}"));
+        let drawn = node.rsplit("</b>").next().unwrap_or("");
+        let drawn = drawn.trim_end_matches("\"]").split(',');
+        assert_eq!(
+            &drawn.map(|n| n.trim().to_string()).collect::<BTreeSet<_>>(),
+            names
+        );
+        let own = drawing(&page, group);
+        let arrows: BTreeSet<_> = own
+            .lines()
+            .filter_map(|l| l.split_once("-->"))
+            .map(|(a, b)| (a.trim().to_string(), b.trim().to_string()))
+            .filter(|(a, _)| names.contains(a))
+            .collect();
+        let inside =
+            |n: &String| -> BTreeSet<String> { parts[n].intersection(names).cloned().collect() };
+        let near = names.iter().flat_map(|name| {
+            let uses = inside(name);
+            let near = uses
+                .iter()
+                .filter(|d| !uses.iter().any(|e| reaches(&parts, e, d)));
+            near.map(|d| (d.clone(), name.clone())).collect::<Vec<_>>()
+        });
+        assert_eq!(arrows, near.collect(), "{group}: run tools/drawing.py");
+        for name in names {
+            assert!(
+                own.contains(&format!("<b>{name}</b>")),
+                "{group}: no box of {name}"
+            );
+            assert!(
+                page.contains(&format!("\n| `{name}` |")),
+                "no row of {name}"
+            );
+        }
     }
-    assert_eq!(nodes, parts.keys().cloned().collect());
-    let near = parts.iter().flat_map(|(name, uses)| {
-        let near = uses
-            .iter()
-            .filter(|d| !uses.iter().any(|e| reaches(&parts, e, d)));
-        near.map(|d| (d.clone(), name.clone())).collect::<Vec<_>>()
-    });
-    assert_eq!(edges, near.collect(), "run tools/drawing.py");
-    // where there is Python, the words in the nodes too
+    // where there is Python, the words and modules in the boxes too
     let check = Command::new("python3")
         .args(["tools/drawing.py", "--check"])
         .current_dir(repository(""))
