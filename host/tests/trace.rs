@@ -1,13 +1,14 @@
-//! docs/TRACE.md: each rule of docs/RULES.md has its row, each name in it is in the tree, each
-//! public function serves a rule, and each edit that must fail says what it breaks.
+//! docs/TRACE.md: each rule of docs/RULES.md has its row and its code, or is listed as one without;
+//! each name is in the tree, each public function serves a rule, and each edit that must fail says
+//! what it breaks.
 
 mod tracing;
 
 use std::collections::{BTreeMap, BTreeSet};
 use std::io::Write;
 use tracing::edits::{first_line, FORM};
-use tracing::pages::{cited, promised, promises, rows, rules, traced, Row, COLUMNS};
-use tracing::tree::{declared, function, in_input, sources, Tree};
+use tracing::pages::{cited, promised, promises, rows, rules, traced, uncoded, Row, COLUMNS};
+use tracing::tree::{declared, function, in_input, items, sources, Tree};
 use tracing::{none, repository, text};
 
 const RULES: &str = "docs/RULES.md";
@@ -57,10 +58,10 @@ fn each_rule_has_a_row() {
     }
     for row in rows
         .iter()
-        .filter(|row| row.columns[..3].iter().all(Vec::is_empty))
+        .filter(|row| row.columns[..4].iter().all(Vec::is_empty))
     {
         faults.push(format!(
-            "{TRACE}:{}: {} has no place: name what states, proves or shows it",
+            "{TRACE}:{}: {} has no place: name what states, carries out, proves or shows it",
             row.line, row.rule
         ));
     }
@@ -79,30 +80,52 @@ fn each_rule_has_a_row() {
     );
 }
 
-#[test]
-fn each_name_is_in_the_tree() {
-    let tree = Tree::read();
-    let edits: BTreeSet<_> = tree
-        .edits
-        .iter()
-        .map(|e| format!("{} {}", e.krate, e.name))
-        .collect();
+/// The names of the trace that are not in the tree.
+fn unknown(rows: &[Row], tree: &Tree) -> Vec<String> {
     let mut faults = Vec::new();
-    for row in trace() {
-        for (i, column) in row.columns.iter().enumerate() {
-            let known = |name: &&String| match i {
-                0 => tree.declarations.contains(*name),
-                1 => tree.declarations.contains(*name) || tree.functions.contains_key(*name),
-                2 => tree.shows(name),
-                _ => edits.contains(*name),
-            };
-            for name in column.iter().filter(|name| !known(name)) {
-                let (line, rule, column) = (row.line, &row.rule, COLUMNS[i]);
+    for row in rows {
+        for (column, names) in COLUMNS.iter().zip(&row.columns) {
+            for name in names.iter().filter(|name| !tree.knows(column, name)) {
+                let (line, rule) = (row.line, &row.rule);
                 faults.push(format!("{TRACE}:{line}: {rule}, {column}: `{name}` is not in the tree: correct the crate or the name"));
             }
         }
     }
-    none(&faults);
+    faults
+}
+
+#[test]
+fn each_name_is_in_the_tree() {
+    none(&unknown(&trace(), &Tree::read()));
+}
+
+/// Where a page's list of the rules that no code carries out differs from its rows without code.
+fn miscoded(page: &str) -> Vec<String> {
+    let mut faults = Vec::new();
+    let listed = once(TRACE, uncoded(page), &mut faults);
+    let rows = rows(page).unwrap_or_else(|fault| panic!("{fault}"));
+    let rows = rows.into_iter().map(|row| (row.rule.clone(), row));
+    let rows: BTreeMap<_, _> = rows.collect();
+    let bare = |id: &str| rows.get(id).is_some_and(|row| row.columns[1].is_empty());
+    for (id, row) in &rows {
+        if bare(id) && !listed.contains_key(id) {
+            faults.push(format!(
+                "{TRACE}:{}: {id} has no code: name it, or list the rule among those that none carries out",
+                row.line
+            ));
+        }
+    }
+    for (id, line) in listed.iter().filter(|(id, _)| !bare(id)) {
+        faults.push(format!(
+            "{TRACE}:{line}: {id} is no rule without code: take it out of the list"
+        ));
+    }
+    faults
+}
+
+#[test]
+fn each_rule_has_code_or_is_listed() {
+    none(&miscoded(&text(TRACE)));
 }
 
 #[test]
@@ -110,7 +133,7 @@ fn each_public_function_has_a_rule() {
     let tree = Tree::read();
     let traced: BTreeSet<_> = trace()
         .into_iter()
-        .flat_map(|row| row.columns[1].clone())
+        .flat_map(|row| [row.columns[1].clone(), row.columns[2].clone()].concat())
         .collect();
     let page = text(PROMISES);
     let promises = promises(&page, &tree);
@@ -119,7 +142,7 @@ fn each_public_function_has_a_rule() {
     for (name, function) in tree.functions.iter().filter(|(_, f)| f.public) {
         if !traced.contains(name) {
             faults.push(format!(
-                "{}: no rule names `{name}`: name it in {TRACE}, 'proved by'",
+                "{}: no rule names `{name}`: name it in {TRACE}, 'code' or 'proved by'",
                 function.at
             ));
         }
@@ -247,7 +270,47 @@ fn wrong_lines_are_seen() {
     assert!(!in_input(input, "figure 4") && !in_input(input, "b") && !in_input(input, "R"));
     let line = "-- A record (rules R1, R4 to R6 and W2; 001 4.4). T1 restarts.";
     assert_eq!(cited(line), ["R1", "R4", "R6", "W2"]);
-    assert!(rows("| R1 | `a B.c` | - | - | x |\n").is_err());
-    assert!(rows("| R1 | `a B.c`, `a B.d` | - | - | - |\n")
+    assert!(rows("| R1 | `a B.c` | - | - | - | x |\n").is_err());
+    assert!(rows("| R1 | `a B.c` | - | - | - |\n").is_err());
+    assert!(rows("| rule | stated by | proved by | shown by | must fail |\n").is_err());
+    assert!(rows("| R1 | `a B.c`, `a B.d` | - | - | - | - |\n")
         .is_ok_and(|rows| rows[0].columns[0].len() == 2));
+}
+
+/// A wrong name of code is found, and a rule without code that is not listed, and the other way round.
+#[test]
+fn wrong_code_is_seen() {
+    let page = "pub const T: [Row; 2] = [\n    Row {\n        kind: b'c',\n    },\n    // 2: x\n];\n// 3: y\nenum E {\n";
+    assert_eq!(items(page), ["T", "T row c", "T row 2", "E"]);
+    let tree = Tree::read();
+    let row = |name: &str| {
+        let page = format!("| R1 | - | `{name}` | - | - | - |\n");
+        rows(&page).expect("a row")
+    };
+    let mut known = tree.functions.keys().chain(&tree.items);
+    assert!(known.all(|name| unknown(&row(name), &tree).is_empty()));
+    let mut tables = tree.items.iter().filter(|name| name.contains(" row "));
+    let table = tables.next().expect("a row of a table");
+    for name in [
+        "reading frame::no_such_function",
+        "no_such_crate frame::frame_check",
+        "reading Frame.frameChecks",
+        &format!("{table}0"),
+    ] {
+        assert_eq!(unknown(&row(name), &tree).len(), 1, "{name}");
+    }
+    let list = "## Rules that no code carries out\n\n- R1, R3 to R4: why\n\n## Lines\n\n- R9: x\n";
+    let bare = |id: &str| format!("| {id} | - | - | - | - | - |\n");
+    let all = [bare("R1"), bare("R3"), bare("R4")].concat();
+    assert!(miscoded(&format!("{list}{all}")).is_empty());
+    assert_eq!(miscoded(&format!("{list}{all}{}", bare("R5"))).len(), 1);
+    assert_eq!(
+        miscoded(&format!("{list}{}{}", bare("R1"), bare("R4"))).len(),
+        1
+    );
+    let coded = "| R3 | - | `a b::c` | - | - | - |\n";
+    assert_eq!(
+        miscoded(&format!("{list}{}{}{coded}", bare("R1"), bare("R4"))).len(),
+        1
+    );
 }

@@ -55,22 +55,27 @@ fn names(cell: &str) -> Vec<String> {
         .collect()
 }
 
-/// A row of the trace: what states, proves and shows its rule, and what must fail.
+/// A row of the trace: what states, carries out, proves and shows its rule, and what must fail.
 pub struct Row {
     pub rule: String,
     pub line: usize,
     pub columns: Vec<Vec<String>>,
 }
 
-pub const COLUMNS: [&str; 4] = ["stated by", "proved by", "shown by", "must fail"];
+pub const COLUMNS: [&str; 5] = ["stated by", "code", "proved by", "shown by", "must fail"];
 
-/// The rows of the trace; or what is wrong with one.
+/// The rows of the trace; or what is wrong with one, or with the head of a table.
 pub fn rows(page: &str) -> Result<Vec<Row>, String> {
+    let head = format!("| rule | {} |", COLUMNS.join(" | "));
+    let other = |line: &&str| line.starts_with("| rule |") && **line != head;
+    if let Some(i) = page.lines().position(|line| other(&line)) {
+        return Err(format!("docs/TRACE.md:{}: write {head}", i + 1));
+    }
     let row = |(rule, line): (String, usize)| {
         let cells = cells(page.lines().nth(line - 1).unwrap_or(""));
         let read = |cell: &&str| Edit::cell(names(cell).into_iter()) == **cell;
-        if cells.len() != 5 || !cells[1..].iter().all(read) {
-            return Err(format!("docs/TRACE.md:{line}: write five cells, each of names in code with a comma between, or -"));
+        if cells.len() != 6 || !cells[1..].iter().all(read) {
+            return Err(format!("docs/TRACE.md:{line}: write six cells, each behind the first of names in code with a comma between, or -"));
         }
         let columns = cells[1..].iter().map(|cell| names(cell)).collect();
         Ok(Row {
@@ -80,6 +85,36 @@ pub fn rows(page: &str) -> Result<Vec<Row>, String> {
         })
     };
     rules(page).into_iter().map(row).collect()
+}
+
+const UNCODED: &str = "## Rules that no code carries out";
+
+/// The rules of a list's words: `R1, R2`, or `R1 to R4` for all four.
+fn spread(words: &str) -> Vec<String> {
+    let number = |id: &str| id[1..].parse::<usize>().ok();
+    let all = |part: &str| match part.split_once(" to ") {
+        Some((first, last)) if is_rule(first) && is_rule(last) => {
+            let ends = number(first).zip(number(last));
+            let (from, to) = ends.unwrap_or((1, 0));
+            (from..=to).map(|n| format!("{}{n}", &first[..1])).collect()
+        }
+        _ => vec![part.to_string()],
+    };
+    words.split(", ").flat_map(all).collect()
+}
+
+/// The rules that the trace lists as such that no code carries out, with the line of each.
+pub fn uncoded(page: &str) -> Vec<(String, usize)> {
+    let lines = page.lines().enumerate();
+    let section = lines.skip_while(|(_, line)| *line != UNCODED).skip(1);
+    let section = section.take_while(|(_, line)| !line.starts_with("## "));
+    let listed = section.filter_map(|(i, line)| {
+        let (words, _) = line.strip_prefix("- ")?.split_once(": ")?;
+        Some((i + 1, words))
+    });
+    listed
+        .flat_map(|(line, words)| spread(words).into_iter().map(move |id| (id, line)))
+        .collect()
 }
 
 /// A row of the promises: the functions that it speaks of, as the trace names them.

@@ -19,6 +19,8 @@ pub struct Tree {
     pub declarations: BTreeSet<String>,
     /// `crate module::name` or `crate module::Type::name`.
     pub functions: BTreeMap<String, Function>,
+    /// `crate module::name` of types and constants, and `crate module::TABLE row key`.
+    pub items: BTreeSet<String>,
     /// `host file::name`.
     pub tests: BTreeSet<String>,
     pub edits: Vec<Edit>,
@@ -112,6 +114,43 @@ pub fn function(line: &str) -> Option<(&str, bool)> {
     Some((&behind[..end], public))
 }
 
+/// The name of the type or constant that a line begins.
+pub fn item(line: &str) -> Option<&str> {
+    let rest = line.strip_prefix("pub(crate) ").unwrap_or(line);
+    let rest = rest.strip_prefix("pub ").unwrap_or(rest);
+    let mut kinds = ["const ", "enum ", "struct "].iter();
+    let behind = kinds.find_map(|kind| rest.strip_prefix(kind))?;
+    let end = behind.find(|c: char| !c.is_alphanumeric() && c != '_')?;
+    Some(&behind[..end])
+}
+
+/// The key of the row that a line of a table begins: its type, or the number in the comment before it.
+fn key(line: &str) -> Option<&str> {
+    let line = line.trim_start();
+    if let Some(kind) = line.strip_prefix("kind: b'") {
+        return kind.strip_suffix("',");
+    }
+    let (number, _) = line.strip_prefix("// ")?.split_once(": ")?;
+    Some(number)
+}
+
+/// The types and constants of a source, and `TABLE row key` for each row of a table.
+pub fn items(page: &str) -> Vec<String> {
+    let mut found = Vec::new();
+    let mut table = None;
+    for line in page.lines() {
+        if let Some(name) = item(line) {
+            found.push(name.to_string());
+            table = line.ends_with("= [").then_some(name);
+        } else if line == "];" {
+            table = None;
+        }
+        let row = table.zip(key(line));
+        found.extend(row.map(|(table, key)| format!("{table} row {key}")));
+    }
+    found
+}
+
 impl Tree {
     pub fn read() -> Self {
         let folders = entries(&repository("crates"));
@@ -119,6 +158,7 @@ impl Tree {
             crates: folders.iter().map(|folder| stem(folder)).collect(),
             declarations: BTreeSet::new(),
             functions: BTreeMap::new(),
+            items: BTreeSet::new(),
             tests: BTreeSet::new(),
             edits: Vec::new(),
             unreadable: Vec::new(),
@@ -162,7 +202,11 @@ impl Tree {
         for path in files(src, "rt") {
             let module = module(src, &path, "::");
             let mut of = String::new();
-            for (i, line) in read(&path).lines().enumerate() {
+            let page = read(&path);
+            let named = items(&page).into_iter();
+            self.items
+                .extend(named.map(|name| format!("{krate} {module}::{name}")));
+            for (i, line) in page.lines().enumerate() {
                 if let Some(behind) = line.strip_prefix("impl ") {
                     of = format!("{}::", behind.trim_end_matches([' ', '{']));
                 } else if line == "}" {
@@ -198,6 +242,22 @@ impl Tree {
                 });
             }
             None => self.unreadable.push(at),
+        }
+    }
+
+    /// Whether a name that stands in this column of the trace is in the tree.
+    pub fn knows(&self, column: &str, name: &str) -> bool {
+        let stated = || self.declarations.contains(name);
+        let function = || self.functions.contains_key(name);
+        match column {
+            "stated by" => stated(),
+            "code" => function() || self.items.contains(name),
+            "proved by" => stated() || function(),
+            "shown by" => self.shows(name),
+            _ => {
+                let mut edits = self.edits.iter();
+                edits.any(|e| format!("{} {}", e.krate, e.name) == name)
+            }
         }
     }
 
