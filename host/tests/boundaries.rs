@@ -3,9 +3,10 @@
 
 mod running;
 
-use host::making::{capture, framed};
-use host::random::Random;
-use host::reading::{CR, LF};
+use host::making::captures::capture;
+use host::making::random::Random;
+use host::second::framing::framed;
+use host::second::reading::{CR, LF};
 use running::{on_line, LISTING, SAMPLE};
 use std::time::Duration;
 

@@ -1,10 +1,10 @@
 //! The programs `cases` and `damage`: no row differs from what it expects, none is left out, and
 //! the second version expects the same: rules W9, W10 and R1 to R15.
 
-use host::program::said;
-use host::reading::{checksum, form_of, read};
-use host::records::Record;
-use host::words::{meant, visible};
+use host::programs::built::said;
+use host::second::reading::{checksum, form_of, read};
+use host::second::records::Record;
+use host::second::words::{meant, visible};
 use std::path::Path;
 
 /// A file of the repository.

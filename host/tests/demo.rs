@@ -1,12 +1,12 @@
 //! Both ends over a simulated line: demand 3 on what happened, and the kept exchange.
 
-use host::both::BothEnds;
-use host::demand::{judge, supposed, Item};
-use host::demo::run;
-use host::face::library;
-use host::odds::{asked, SHOWN};
-use host::program::Program;
-use host::script::Bench;
+use host::comparing::both::BothEnds;
+use host::comparing::linked::library;
+use host::line::demand::{judge, supposed, Item};
+use host::line::demo::run;
+use host::line::odds::{asked, SHOWN};
+use host::programs::scenes::Program;
+use host::second::script::Bench;
 use std::path::{Path, PathBuf};
 use std::process::Command;
 

@@ -2,16 +2,17 @@
 
 mod running;
 
-use host::both::BothEnds;
-use host::demand::Item;
-use host::demo::{logged, Ends};
-use host::face::library;
-use host::logging::{school, written};
-use host::logs::{entries, Mark};
-use host::odds::{IDLE, SHOWN};
-use host::program::{built, Program};
-use host::replay::replay;
-use host::script::Bench;
+use host::comparing::both::BothEnds;
+use host::comparing::linked::library;
+use host::line::demand::Item;
+use host::line::demo::{logged, Ends};
+use host::line::log::{school, written};
+use host::line::odds::{IDLE, SHOWN};
+use host::programs::built::built;
+use host::programs::scenes::Program;
+use host::second::logs::{entries, Mark};
+use host::second::replay::replay;
+use host::second::script::Bench;
 use host::second::Second;
 use running::REPLAY;
 use std::env::consts::ARCH;

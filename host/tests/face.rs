@@ -1,11 +1,12 @@
 //! Compares the compiled library with the second version through the C face, from fixed seeds:
 //! `include/in656.h` and the rules. Where the library is not linked each test says so.
 
+use host::comparing::linked::library;
+use host::comparing::runs::judge_runs;
 use host::comparing::{compare, figures, Tally, GATE};
-use host::face::{library, Face};
-use host::faults::FAULTS;
-use host::logging::small;
-use host::runs::judge_runs;
+use host::making::logs::small;
+use host::second::face::Face;
+use host::second::faults::FAULTS;
 use host::second::Second;
 use std::io::Write;
 use std::process::{Command, Output};

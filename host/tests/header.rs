@@ -1,10 +1,11 @@
 //! Each number of `include/in656.h` is what the compiled library answers.
 
-use host::blocks::record_block;
-use host::both::BothEnds;
-use host::face::{library, Answer, Call, Face};
-use host::making::framed;
-use host::records::Record;
+use host::comparing::both::BothEnds;
+use host::comparing::linked::library;
+use host::second::blocks::record_block;
+use host::second::face::{Answer, Call, Face};
+use host::second::framing::framed;
+use host::second::records::Record;
 use std::collections::BTreeMap;
 use std::io::Write;
 use std::path::Path;

@@ -3,10 +3,13 @@
 
 mod running;
 
-use host::exchange::exchange;
-use host::making::{any_form, capture, framed, noise, of_form, seal, DAMAGES};
-use host::random::Random;
-use host::reading::{forms_on, FORMS};
+use host::making::captures::{capture, noise};
+use host::making::damage::DAMAGES;
+use host::making::exchange::exchange;
+use host::making::random::Random;
+use host::making::telegrams::{any_form, of_form};
+use host::second::framing::{framed, seal};
+use host::second::reading::{forms_on, FORMS};
 use running::{on_line, LISTING, SAMPLE};
 
 /// The number of lines of a listing that hold some words.

@@ -3,10 +3,10 @@
 
 mod running;
 
-use host::logging::{log, log_of, small};
-use host::logs::{Mark, HEAD};
-use host::making::framed;
-use host::random::Random;
+use host::making::logs::{log, log_of, small};
+use host::making::random::Random;
+use host::second::framing::framed;
+use host::second::logs::{Mark, HEAD};
 use running::{on_line, REPLAY};
 use std::time::Duration;
 

@@ -1,9 +1,9 @@
 //! The log of the second version: what its reader takes and refuses, in the order of request 1, and
 //! what its writer writes. The compiled library is compared with it in `face.rs`.
 
-use host::logging::{log, log_of, small, spoil};
-use host::logs::{add, entries, entry_at, write, Entry, Mark, HEAD, MARKS};
-use host::random::Random;
+use host::making::logs::{log, log_of, small, spoil};
+use host::making::random::Random;
+use host::second::logs::{add, entries, entry_at, write, Entry, Mark, HEAD, MARKS};
 
 const TIME: u32 = 0x0102_0304;
 

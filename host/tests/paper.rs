@@ -1,11 +1,14 @@
 //! The independent version against the rules themselves: the cases of W9 and W10, the forms, the
 //! refusals, cutting and the listing of P4.
 
-use host::cutting::{next_telegram, telegrams, Cutter, Heard};
-use host::listing::listing;
-use host::making::{any_form, capture, count, framed, noise, of_form, seal, DAMAGES};
-use host::random::Random;
-use host::reading::{checksum, form_of, forms_on, read, Reading, CR, LF, SET};
+use host::making::captures::{capture, noise};
+use host::making::damage::DAMAGES;
+use host::making::random::Random;
+use host::making::telegrams::{any_form, of_form};
+use host::second::cutting::{next_telegram, telegrams, Cutter, Heard};
+use host::second::framing::{count, framed, seal};
+use host::second::listing::listing;
+use host::second::reading::{checksum, form_of, forms_on, read, Reading, CR, LF, SET};
 
 /// A telegram as the paper prints it, with LF and CR.
 fn telegram(text: &str) -> Vec<u8> {

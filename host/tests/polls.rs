@@ -1,19 +1,21 @@
 //! When and with what each line is polled, from 001 6.9, 7.3, 8.6 and 8.8: rules K4, M1, M7 and E11 of the
 //! second version, and of the library where it is linked.
 
-use host::blocks::{master_block, master_in, record_block, MASTER};
-use host::both::BothEnds;
-use host::demo::Ends;
-use host::desk::ROOM;
-use host::face::{library, Call, Face};
-use host::making::{any_form, framed, of_form};
-use host::master::{Master, Told, Why};
-use host::random::Random;
-use host::reading::{forms_on, read, SET};
-use host::records::{by_master, Record};
-use host::script::Bench;
+use host::comparing::both::BothEnds;
+use host::comparing::linked::library;
+use host::line::demo::Ends;
+use host::making::random::Random;
+use host::making::telegrams::{any_form, of_form};
+use host::second::blocks::{master_block, master_in, record_block, MASTER};
+use host::second::desk::ROOM;
+use host::second::face::{Call, Face};
+use host::second::framing::framed;
+use host::second::master::{Master, Told, Why};
+use host::second::reading::{forms_on, read, SET};
+use host::second::records::{by_master, Record};
+use host::second::script::Bench;
+use host::second::words::in_row;
 use host::second::Second;
-use host::words::in_row;
 
 /// Where the flag stands in the master's bytes.
 const OPERATION_AT: usize = 12;

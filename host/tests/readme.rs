@@ -2,8 +2,8 @@
 
 mod machine;
 
-use host::listing::listing;
-use host::replay::replay;
+use host::second::listing::listing;
+use host::second::replay::replay;
 use machine::{repository, text};
 
 /// Lines as the README shows them, four spaces in.

@@ -2,15 +2,17 @@
 
 mod running;
 
-use host::face::library;
-use host::logging::{log, log_of, small, spoil};
-use host::logs::{entries, Mark, HEAD};
-use host::making::framed;
-use host::program::Program;
-use host::random::Random;
-use host::replay::{by_hand, replay};
-use host::script::Bench;
-use host::{both::BothEnds, second::Second};
+use host::comparing::both::BothEnds;
+use host::comparing::linked::library;
+use host::line::by_hand::by_hand;
+use host::making::logs::{log, log_of, small, spoil};
+use host::making::random::Random;
+use host::programs::scenes::Program;
+use host::second::framing::framed;
+use host::second::logs::{entries, Mark, HEAD};
+use host::second::replay::replay;
+use host::second::script::Bench;
+use host::second::Second;
 use running::{on_line, REPLAY};
 
 /// The last line of a text.

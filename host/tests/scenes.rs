@@ -1,11 +1,11 @@
 //! Compares the built program `scenes` with the second version of the two ends: rules
 //! E1 to E12, M1 to M18 and D1 to D16, and docs/SCENES.md for the rows.
 
-use host::clock::elapsed;
-use host::program::said;
-use host::random::Random;
-use host::script::{run, Bench, Row};
-use host::scripting::script;
+use host::making::random::Random;
+use host::making::scripts::script;
+use host::programs::built::said;
+use host::second::clock::elapsed;
+use host::second::script::{run, Bench, Row};
 use std::path::{Path, PathBuf};
 
 /// A path in the repository.

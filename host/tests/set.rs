@@ -4,8 +4,8 @@
 
 mod running;
 
-use host::making::framed;
-use host::reading::{CR, LF, SET};
+use host::second::framing::framed;
+use host::second::reading::{CR, LF, SET};
 use running::{on_line, LISTING};
 use std::{fs, path::Path};
 

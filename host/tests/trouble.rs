@@ -1,9 +1,9 @@
 //! What the programs `listing` and `replay` do where reading or writing fails, or is not ready: they
 //! say so on standard error, and `tools/run` ends with status 1.
 
-use host::listing::listing;
-use host::program::{built, command};
-use host::replay::replay;
+use host::programs::built::{built, command};
+use host::second::listing::listing;
+use host::second::replay::replay;
 use std::env::consts::ARCH;
 use std::fs::File;
 use std::io::{Read, Write};

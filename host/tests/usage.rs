@@ -1,7 +1,7 @@
 //! Every program says on standard error how it is called where its arguments are wrong, and ends
 //! with status 2. The C examples are tried in `examples.rs`.
 
-use host::program::{built, command};
+use host::programs::built::{built, command};
 use std::env::consts::ARCH;
 use std::process::{Command, Output, Stdio};
 

@@ -1,16 +1,18 @@
 //! Times the library, through its C face, and the second version on the same inputs in one run, and
 //! prints a table. Document 01 has no section for it.
 
-use host::arguments::{arguments, stop};
-use host::blocks::{record_block, DESK, GATHERER, RECORD};
-use host::cutting::{telegrams, Cutter, Heard};
-use host::desk::{Desk, ROOM};
-use host::face::{library, Call, Face, Linked};
-use host::listing::listing;
-use host::making::{any_form, piece};
-use host::random::Random;
-use host::reading::{read, CR, LF};
-use host::records::{by_master, Record};
+use host::comparing::linked::{library, Linked};
+use host::making::captures::piece;
+use host::making::random::Random;
+use host::making::telegrams::any_form;
+use host::programs::arguments::{arguments, stop};
+use host::second::blocks::{record_block, DESK, GATHERER, RECORD};
+use host::second::cutting::{telegrams, Cutter, Heard};
+use host::second::desk::{Desk, ROOM};
+use host::second::face::{Call, Face};
+use host::second::listing::listing;
+use host::second::reading::{read, CR, LF};
+use host::second::records::{by_master, Record};
 use std::fs::File;
 use std::hint::black_box;
 use std::process::{Command, Stdio};

@@ -2,9 +2,9 @@
 //! standard output; the listing program is timed with it. A quiet capture has mostly
 //! bytes outside telegrams, a busy one telegram after telegram.
 
-use host::arguments::{arguments, stop};
-use host::making::piece;
-use host::random::Random;
+use host::making::captures::piece;
+use host::making::random::Random;
+use host::programs::arguments::{arguments, stop};
 use std::io::Write;
 use std::process::ExitCode;
 

@@ -3,10 +3,11 @@
 //! DIVIDED makes every chunk that many times smaller. With `itself` the second version stands in for
 //! the library: a fault that both have is then left to the judge of demand 3 to find.
 
-use host::arguments::{arguments, stop};
+use host::comparing::linked::library;
+use host::comparing::runs::judge_runs;
 use host::comparing::{compare, figures, Size, GATE, PARTS};
-use host::face::{library, Face};
-use host::runs::judge_runs;
+use host::programs::arguments::{arguments, stop};
+use host::second::face::Face;
 use host::second::Second;
 use std::time::Instant;
 

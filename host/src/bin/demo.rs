@@ -3,13 +3,13 @@
 //! else those of PROGRAM, which is `scenes`. LOG names a file for the log of what is shown. Where
 //! PANEL is `idle` the panel does nothing, and the line hits too; either may be empty.
 
-use host::arguments::{arguments, stop};
-use host::both::BothEnds;
-use host::demo::logged;
-use host::face::library;
-use host::logging::written;
-use host::odds::{asked, IDLE, SHOWN};
-use host::program::Program;
+use host::comparing::both::BothEnds;
+use host::comparing::linked::library;
+use host::line::demo::logged;
+use host::line::log::written;
+use host::line::odds::{asked, IDLE, SHOWN};
+use host::programs::arguments::{arguments, stop};
+use host::programs::scenes::Program;
 use host::second::Second;
 
 fn main() {

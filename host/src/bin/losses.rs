@@ -2,11 +2,11 @@
 //! them, over lines that lose and spoil more and more. It prints which share of the telegrams
 //! ended in which way, and draws it.
 
-use host::arguments::{arguments, stop};
-use host::demand::Item;
-use host::demo::run;
-use host::odds::Odds;
-use host::program::Program;
+use host::line::demand::Item;
+use host::line::demo::run;
+use host::line::odds::Odds;
+use host::programs::arguments::{arguments, stop};
+use host::programs::scenes::Program;
 use std::fmt::Write;
 
 /// How a telegram ended: answered after one, two or three sendings, or given up.

@@ -2,11 +2,13 @@
 //! line2.cap, line3.cap and noise.cap, and the log school.log. Each begins with the line digit of
 //! the listing (rule P1).
 
-use host::arguments::{arguments, stop};
-use host::exchange::exchange;
-use host::logging::school;
-use host::making::{any_form, damaged, noise};
-use host::random::Random;
+use host::line::log::school;
+use host::making::captures::noise;
+use host::making::damage::damaged;
+use host::making::exchange::exchange;
+use host::making::random::Random;
+use host::making::telegrams::any_form;
+use host::programs::arguments::{arguments, stop};
 use std::path::Path;
 use std::process::ExitCode;
 

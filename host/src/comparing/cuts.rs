@@ -1,11 +1,12 @@
 //! Streams cut by both, item by item and by search: rules C1 to C8.
 
-use super::{inputs, Lent, Pair};
-use crate::blocks::GATHERER;
-use crate::face::Call;
-use crate::making::{capture, noise};
-use crate::numbers::TELEGRAM;
-use crate::random::Random;
+use super::{Lent, Pair};
+use crate::making::calls;
+use crate::making::captures::{capture, noise};
+use crate::making::random::Random;
+use crate::second::blocks::GATHERER;
+use crate::second::face::Call;
+use crate::second::numbers::TELEGRAM;
 
 /// Cuts a number of streams in both ways.
 pub fn cut(pair: &mut Pair, seed: u64, items: usize) {
@@ -64,7 +65,7 @@ fn by_step(pair: &mut Pair, random: &mut Random, bytes: &[u8], hits: bool) -> Ve
 /// A byte and a hit on a damaged state.
 fn damaged_step(pair: &mut Pair, random: &mut Random, state: &Lent, byte: u8) {
     for call in [Call::GathererByte(byte), Call::GathererHit] {
-        let damaged = inputs::damage(random, state.bytes());
+        let damaged = calls::damage(random, state.bytes());
         let mut damaged = pair.lent(&damaged);
         pair.on(call, &mut damaged);
     }

@@ -1,14 +1,16 @@
 //! Sequences of calls of desk and master by both, mostly of exchanges that fit together, with
 //! lost and damaged frames, short rooms, damaged states and clocks that jump: rules E1 to E12, K1 to K5, M1 to M18, D1 to D16.
 
-use super::{inputs, Lent, Pair};
-use crate::blocks::{master_in, DESK, MASTER, RECORD};
-use crate::desk::ROOM;
-use crate::face::{Answer, Call};
-use crate::making::{approved, DAMAGES};
-use crate::random::Random;
-use crate::records::data_type;
-use crate::scripting::{tick_time, CLOCKS, STEPS};
+use super::{Lent, Pair};
+use crate::making::calls;
+use crate::making::damage::DAMAGES;
+use crate::making::random::Random;
+use crate::making::telegrams::approved;
+use crate::making::times::{tick_time, CLOCKS, STEPS};
+use crate::second::blocks::{master_in, DESK, MASTER, RECORD};
+use crate::second::desk::ROOM;
+use crate::second::face::{Answer, Call};
+use crate::second::records::data_type;
 
 /// The most calls of a sequence.
 const CALLS: usize = 200;
@@ -61,11 +63,11 @@ impl Sequence<'_, '_> {
     /// Starts both ends on their line, at times on a missing line before that.
     fn start(&mut self) {
         if self.random.one_in(20) {
-            let line = inputs::line(self.random);
+            let line = calls::line(self.random);
             let (desk, master) = (self.desk.bytes().to_vec(), self.master.bytes().to_vec());
             let (desk, master) = (
-                inputs::damage(self.random, &desk),
-                inputs::damage(self.random, &master),
+                calls::damage(self.random, &desk),
+                calls::damage(self.random, &master),
             );
             let (mut desk, mut master) = (self.pair.lent(&desk), self.pair.lent(&master));
             self.pair.on(Call::DeskStart(line), &mut desk);
@@ -101,7 +103,7 @@ impl Sequence<'_, '_> {
             return;
         }
         let kept = if of_desk { &self.desk } else { &self.master }.clone();
-        let damaged = inputs::damage(self.random, kept.bytes());
+        let damaged = calls::damage(self.random, kept.bytes());
         let damaged = self.pair.lent(&damaged);
         *self.end(of_desk) = damaged;
         let answer = self.on_an_end(of_desk, false);
@@ -160,11 +162,11 @@ impl Sequence<'_, '_> {
             }
             0..=4 => pair.call(Call::DeskTick(now), &mut self.desk, out, record),
             5..=11 => {
-                let block = inputs::block(self.random, line, data_type(line)).into_boxed_slice();
+                let block = calls::block(self.random, line, data_type(line)).into_boxed_slice();
                 pair.call(Call::DeskQueue(&block), &mut self.desk, out, record)
             }
             12..=15 => {
-                let block = inputs::block(self.random, line, data_type(line)).into_boxed_slice();
+                let block = calls::block(self.random, line, data_type(line)).into_boxed_slice();
                 pair.call(Call::DeskSet(&block), &mut self.desk, out, record)
             }
             _ => {
@@ -189,7 +191,7 @@ impl Sequence<'_, '_> {
             }
             0..=15 => {
                 let wanted = self.random.one_in(4).then_some(b't');
-                let block = inputs::block(self.random, line, wanted).into_boxed_slice();
+                let block = calls::block(self.random, line, wanted).into_boxed_slice();
                 pair.call(
                     Call::MasterOffer(now, &block),
                     &mut self.master,
@@ -234,7 +236,7 @@ fn heard(random: &mut Random, line: u8, sent: &[u8]) -> Box<[u8]> {
             damage(random, &mut frame);
             frame
         }
-        _ => inputs::frame(random, line, index),
+        _ => calls::frame(random, line, index),
     };
     frame.into_boxed_slice()
 }

@@ -1,14 +1,15 @@
 //! Logs read, replayed and written by both.
 
-use super::{inputs, Lent, Pair};
-use crate::blocks::{DESK, RECORD};
-use crate::desk::ROOM;
-use crate::face::Call;
-use crate::logging::{log, small, spoil};
-use crate::logs::{Mark, HEAD};
-use crate::making::noise;
-use crate::random::Random;
-use crate::reading::LONGEST;
+use super::{Lent, Pair};
+use crate::making::calls;
+use crate::making::captures::noise;
+use crate::making::logs::{log, small, spoil};
+use crate::making::random::Random;
+use crate::second::blocks::{DESK, RECORD};
+use crate::second::desk::ROOM;
+use crate::second::face::Call;
+use crate::second::logs::{Mark, HEAD};
+use crate::second::reading::LONGEST;
 
 /// Replays a number of logs, half of them spoiled. The first chunks also replay a small log with each
 /// of its bytes replaced by every value.
@@ -87,7 +88,7 @@ pub fn write(pair: &mut Pair, seed: u64, items: usize) {
         };
         let mut bytes = noise(&mut random, length);
         if random.one_in(4) && length > 0 {
-            inputs::change(&mut random, &mut bytes);
+            calls::change(&mut random, &mut bytes);
         }
         let room = match random.below(3) {
             0 => (HEAD + length).saturating_sub(random.below(3)),

@@ -1,13 +1,17 @@
 //! Compares the library with the second version: makes the same calls on the same bytes, and after
 //! each call compares all that it answers and all that it may change.
 
+pub mod both;
 pub mod cuts;
 pub mod ends;
-pub mod inputs;
+#[cfg(archive)]
+pub mod library;
+pub mod linked;
 pub mod logs;
+pub mod runs;
 pub mod telegrams;
 
-use crate::face::{Answer, Call, Face};
+use crate::second::face::{Answer, Call, Face};
 use std::collections::BTreeMap;
 use std::sync::atomic::{AtomicU64, Ordering};
 use std::sync::Mutex;

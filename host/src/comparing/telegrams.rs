@@ -1,13 +1,15 @@
 //! Frames read and records written by both: rules R1 to R15, W1 to W8.
 
-use super::{inputs, Pair};
-use crate::blocks::{record_block, RECORD};
-use crate::desk::ROOM;
-use crate::face::Call;
-use crate::making::{of_form, seal};
-use crate::random::Random;
-use crate::reading::{forms_on, read as read_telegram, Form};
-use crate::records::Record;
+use super::Pair;
+use crate::making::calls;
+use crate::making::random::Random;
+use crate::making::telegrams::of_form;
+use crate::second::blocks::{record_block, RECORD};
+use crate::second::desk::ROOM;
+use crate::second::face::Call;
+use crate::second::framing::seal;
+use crate::second::reading::{forms_on, read as read_telegram, Form};
+use crate::second::records::Record;
 
 /// Reads a number of frames of every kind and of every length up to 80, and this chunk's share of a sweep.
 pub fn read(pair: &mut Pair, seed: u64, items: usize) {
@@ -16,8 +18,8 @@ pub fn read(pair: &mut Pair, seed: u64, items: usize) {
         every_byte(pair, seed, &mut random);
     }
     for index in 0..items {
-        let line = inputs::line(&mut random);
-        let frame = inputs::frame(&mut random, line as u8, index).into_boxed_slice();
+        let line = calls::line(&mut random);
+        let frame = calls::frame(&mut random, line as u8, index).into_boxed_slice();
         let length = if random.one_in(100) {
             random.below(80)
         } else {
@@ -108,10 +110,10 @@ pub fn write(pair: &mut Pair, seed: u64, items: usize) {
         every_value(pair, seed, &mut random);
     }
     for index in 0..items {
-        let line = inputs::line(&mut random);
+        let line = calls::line(&mut random);
         let near = if matches!(line, 1..=3) { line as u8 } else { 1 };
-        let block = inputs::block(&mut random, near, None).into_boxed_slice();
-        let number = inputs::number(&mut random);
+        let block = calls::block(&mut random, near, None).into_boxed_slice();
+        let number = calls::number(&mut random);
         write_one(pair, line, &block, number, &vec![random.byte(); index % 71]);
     }
 }

@@ -4,9 +4,9 @@
 // Each test file uses a part of this module.
 #![allow(dead_code)]
 
-use host::listing::listing;
-use host::program::{built, started};
-use host::replay::replay;
+use host::programs::built::{built, started};
+use host::second::listing::listing;
+use host::second::replay::replay;
 use std::env::consts::ARCH;
 use std::fs::{self, File};
 use std::io::{ErrorKind, Write};

@@ -1,0 +1,56 @@
+//! The replay of a whole log as text, over the second desk: docs/REPLAY.md, from request 1 alone.
+
+use crate::second::desk::{Desk, ROOM};
+use crate::second::logs::{entries, Entry, Mark};
+use crate::second::words::{done, heard, output};
+
+/// What the program `replay` prints for an input.
+pub fn replay(input: &[u8]) -> String {
+    replayed(input, |line| {
+        let mut desk = Desk::start(line).0;
+        move |entry: &Entry| acted(&mut desk, entry)
+    })
+}
+
+/// The rows of an input. `fresh` starts a desk, and gives what each record makes it do in words.
+pub fn replayed<D>(input: &[u8], fresh: impl FnOnce(u8) -> D) -> String
+where
+    D: FnMut(&Entry) -> Option<String>,
+{
+    let (line, log) = match input.split_first() {
+        Some((digit @ b'1'..=b'3', log)) => (digit - b'0', log),
+        _ => return String::from("no 15 0\n"),
+    };
+    let mut desk = fresh(line);
+    let (found, refused) = entries(log);
+    let mut rows = String::new();
+    for (index, (offset, entry)) in found.iter().enumerate() {
+        if let Some(did) = desk(entry) {
+            let (ordinal, time) = (index + 1, entry.time);
+            rows.push_str(&format!("{ordinal} {offset} {time} {did}\n"));
+        }
+    }
+    if let Some((refusal, offset)) = refused {
+        rows.push_str(&format!("no {refusal} {offset}\n"));
+    }
+    rows
+}
+
+/// What a record makes the second desk do; nothing where it is passed over.
+fn acted(desk: &mut Desk, entry: &Entry) -> Option<String> {
+    match entry.mark {
+        Mark::Slave => None,
+        Mark::Hit => Some(match desk.tick(entry.time) {
+            Ok(true) => "line noted lost".into(),
+            Ok(false) => done(Ok(())),
+            Err(refusal) => done(Err(refusal)),
+        }),
+        Mark::Master => Some(match desk.hear(entry.time, ROOM, entry.bytes) {
+            Ok((lost, came, bytes)) => {
+                let noted = if lost { "line noted lost, " } else { "" };
+                format!("{noted}{}{}", heard(&came), output(&bytes))
+            }
+            Err(refusal) => done(Err(refusal)),
+        }),
+    }
+}
