@@ -1,12 +1,16 @@
 //! Both ends over a simulated line: demand 3 on what happened, and the kept exchange.
 
-use host::comparing::both::BothEnds;
 use host::comparing::linked::library;
-use host::line::demand::{judge, supposed, Item};
+use host::line::demand::{history, judge, supposed, Item};
 use host::line::demo::run;
+use host::line::faced::BothEnds;
 use host::line::odds::{asked, SHOWN};
-use host::programs::scenes::Program;
-use host::second::script::Bench;
+use host::line::simulated::{Event, Happened};
+use host::line::timeline::timeline;
+use host::programs::scenes::Scenes;
+use host::second::face::Face;
+use host::second::master::Told;
+use host::second::Second;
 use std::path::{Path, PathBuf};
 use std::process::Command;
 
@@ -15,23 +19,19 @@ fn repository(path: &str) -> PathBuf {
     Path::new(env!("CARGO_MANIFEST_DIR")).join("..").join(path)
 }
 
-/// The program `scenes`, started.
-fn program() -> Program {
-    Program::of("scenes")
+/// What happens in a demonstration whose ends stand behind a face.
+fn by(face: &dyn Face, line: u8, seed: u64) -> Vec<Happened> {
+    run(&mut BothEnds::new(face), &SHOWN, line, seed, 90_000)
 }
 
 /// The exchange that `make demo` shows.
 #[test]
 fn kept_exchange() {
     let kept = std::fs::read_to_string(repository("samples/exchange.txt")).expect("it is read");
-    assert_eq!(run(&mut program(), &SHOWN, 1, 33, 90_000).0, kept);
+    let happened = run(&mut Scenes::built(), &SHOWN, 1, 33, 90_000);
+    assert_eq!(timeline(1, &happened), kept);
     if let Ok(face) = library() {
-        let mut ends = BothEnds::new(face);
-        assert_eq!(
-            run(&mut ends, &SHOWN, 1, 33, 90_000).0,
-            kept,
-            "by the library"
-        );
+        assert_eq!(timeline(1, &by(face, 1, 33)), kept, "by the library");
     }
 }
 
@@ -71,17 +71,24 @@ fn asked_for() {
 /// the same, and demand 3 holds.
 #[test]
 fn many_exchanges() {
-    let mut program = program();
+    let mut program = Scenes::built();
     let mut reached = [false; 4];
     for seed in 0..20 {
         for line in 1..=3 {
-            let (text, history) = run(&mut program, &SHOWN, line, seed, 90_000);
-            let (second, _) = run(&mut Bench::new(), &SHOWN, line, seed, 90_000);
-            assert_eq!(text, second, "line {line}, seed {seed}");
+            let happened = run(&mut program, &SHOWN, line, seed, 90_000);
+            let (text, second) = (timeline(line, &happened), by(&Second, line, seed));
+            assert_eq!(text, timeline(line, &second), "line {line}, seed {seed}");
+            assert_eq!(happened, second, "line {line}, seed {seed}");
             if let Ok(face) = library() {
-                let (third, _) = run(&mut BothEnds::new(face), &SHOWN, line, seed, 90_000);
+                let third = by(face, line, seed);
+                assert_eq!(
+                    text,
+                    timeline(line, &third),
+                    "line {line}, seed {seed}, by the library"
+                );
                 assert_eq!(third, second, "line {line}, seed {seed}, by the library");
             }
+            let history = history(&happened);
             assert!(
                 supposed(&history),
                 "line {line}, seed {seed}: the supposition"
@@ -117,10 +124,10 @@ fn many_exchanges() {
 /// Short runs, in which none is given up: answered and handled agree.
 #[test]
 fn calm_exchanges() {
-    let mut program = program();
+    let mut program = Scenes::built();
     let mut calm = 0;
     for seed in 100..130 {
-        let (_, history) = run(&mut program, &SHOWN, 2, seed, 20_000);
+        let history = history(&run(&mut program, &SHOWN, 2, seed, 20_000));
         calm += usize::from(!history.iter().any(|item| matches!(item, Item::GivenUp(..))));
         assert!(
             judge(&history).iter().all(|(_, holds)| *holds),
@@ -136,23 +143,26 @@ fn calm_exchanges() {
 fn polls_come_in_time() {
     let mut seen = [0; 3];
     let lines = [
-        (1, [20_000, 20_000], "BB"),
-        (2, [5_000, 5_000], "B5"),
-        (3, [10_000, 20_000], "Bt"),
+        (1, [20_000, 20_000], b"BB"),
+        (2, [5_000, 5_000], b"B5"),
+        (3, [10_000, 20_000], b"Bt"),
     ];
     for ((line, limits, poll), seen) in lines.into_iter().zip(&mut seen) {
         for seed in 0..100 {
-            let (text, _) = run(&mut Bench::new(), &SHOWN, line, seed, 90_000);
             let mut last = 0;
-            for row in text.lines().filter(|row| row.get(10..12) == Some("M>")) {
-                let digits = row.get(..8).unwrap_or("").replace(['.', ' '], "");
-                let now: u32 = digits.parse().expect("a time");
-                if row.ends_with("a poll") {
+            for thing in by(&Second, line, seed) {
+                let Event::Told(_, told, sent) = &thing.event else {
+                    continue;
+                };
+                if *told == Told::Polled(1) {
                     let due = limits.map(|limit: u32| (last + limit).next_multiple_of(50));
-                    assert!(due.contains(&now) && row.contains(poll), "{row}");
+                    assert!(due.contains(&thing.now), "{thing:?}");
+                    assert_eq!(sent.get(5..7), Some(&poll[..]), "{thing:?}");
                     *seen += 1;
                 }
-                last = now;
+                if !sent.is_empty() {
+                    last = thing.now;
+                }
             }
         }
     }

@@ -2,17 +2,21 @@
 
 mod running;
 
-use host::comparing::both::BothEnds;
 use host::comparing::linked::library;
-use host::line::demand::Item;
-use host::line::demo::{logged, Ends};
+use host::line::demand::{history, Item};
+use host::line::demo::run;
+use host::line::ends::Ends;
+use host::line::faced::BothEnds;
 use host::line::log::{school, written};
 use host::line::odds::{IDLE, SHOWN};
 use host::programs::built::built;
-use host::programs::scenes::Program;
+use host::programs::scenes::Scenes;
+use host::second::desk::{Hearing, Refusal};
 use host::second::logs::{entries, Mark};
+use host::second::master::Told;
+use host::second::records::Record;
 use host::second::replay::replay;
-use host::second::script::Bench;
+use host::second::words::{hearing, ticked};
 use host::second::Second;
 use running::REPLAY;
 use std::env::consts::ARCH;
@@ -32,16 +36,46 @@ struct Kept<E> {
 }
 
 impl<E: Ends> Ends for Kept<E> {
-    fn call(&mut self, row: &str) -> String {
-        let answer = self.ends.call(row);
-        let words: Vec<&str> = row.split(' ').collect();
-        if let ["desk", "hear" | "tick", time, ..] = words[..] {
-            let (did, _state) = answer.rsplit_once(';').expect("words and a state");
-            if did != "done" {
-                self.did.push(format!("{time} {did}"));
-            }
+    fn desk_tick(&mut self, now: u32) -> Result<bool, Refusal> {
+        let answer = self.ends.desk_tick(now);
+        if answer != Ok(false) {
+            self.did.push(format!("{now} {}", ticked(answer)));
         }
         answer
+    }
+
+    fn desk_hear(&mut self, now: u32, room: usize, frame: &[u8]) -> Result<Hearing, Refusal> {
+        let answer = self.ends.desk_hear(now, room, frame);
+        self.did.push(format!("{now} {}", hearing(answer.clone())));
+        answer
+    }
+
+    fn start(&mut self, line: u8, now: u32) {
+        self.ends.start(line, now);
+    }
+
+    fn desk_queue(&mut self, record: &Record) -> Result<(), Refusal> {
+        self.ends.desk_queue(record)
+    }
+
+    fn desk_set(&mut self, record: &Record) -> Result<(), Refusal> {
+        self.ends.desk_set(record)
+    }
+
+    fn desk_key(&mut self, key: u8) -> Result<(), Refusal> {
+        self.ends.desk_key(key)
+    }
+
+    fn master_offer(&mut self, now: u32, room: usize, record: &Record) -> (Told, Vec<u8>) {
+        self.ends.master_offer(now, room, record)
+    }
+
+    fn master_tick(&mut self, now: u32, room: usize) -> (Told, Vec<u8>) {
+        self.ends.master_tick(now, room)
+    }
+
+    fn master_hear(&mut self, now: u32, room: usize, frame: &[u8]) -> (Told, Vec<u8>) {
+        self.ends.master_hear(now, room, frame)
     }
 }
 
@@ -49,14 +83,17 @@ impl<E: Ends> Ends for Kept<E> {
 fn shown(ends: impl Ends, line: u8, seed: u64) -> (Vec<String>, Vec<String>, Vec<u8>) {
     let did = Vec::new();
     let mut kept = Kept { ends, did };
-    let (_, history, log) = logged(&mut kept, &IDLE, line, seed, 90_000);
-    let handled = history.into_iter().filter_map(|item| match item {
-        Item::Handled(_, answer) => Some(answer),
-        _ => None,
-    });
+    let happened = run(&mut kept, &IDLE, line, seed, 90_000);
+    let handled = history(&happened)
+        .into_iter()
+        .filter_map(|item| match item {
+            Item::Handled(_, answer) => Some(answer),
+            _ => None,
+        });
     let answers = handled.collect();
-    let file = written(library().unwrap_or(&Second), line, &log);
-    assert_eq!(file, written(&Second, line, &log), "both write the same");
+    let file = written(library().unwrap_or(&Second), line, &happened);
+    let second = written(&Second, line, &happened);
+    assert_eq!(file, second, "both write the same");
     (kept.did, answers, file)
 }
 
@@ -91,7 +128,7 @@ fn a_log_replays() {
     for seed in 0..40 {
         for line in 1..=3 {
             let name = format!("line {line}, seed {seed}");
-            let run = shown(Bench::new(), line, seed);
+            let run = shown(BothEnds::new(&Second), line, seed);
             let rows = replay(&run.2);
             if let Ok(face) = library() {
                 assert_eq!(shown(BothEnds::new(face), line, seed), run, "{name}");
@@ -105,9 +142,8 @@ fn a_log_replays() {
 #[test]
 fn a_log_replays_by_the_programs() {
     for line in 1..=3 {
-        let scenes = Program::of("scenes");
         let name = format!("log of line {line}");
-        let run = shown(scenes, line, 656);
+        let run = shown(Scenes::built(), line, 656);
         let rows = REPLAY.compare(&name, &run.2);
         same(run, &rows, &name);
     }
@@ -145,10 +181,10 @@ fn the_kept_log() {
 /// A busy panel: its records are in the answers of the run, and not in those of a fresh desk.
 #[test]
 fn a_busy_panel() {
-    let (_, history, log) = logged(&mut Bench::new(), &SHOWN, 1, 33, 90_000);
+    let happened = run(&mut BothEnds::new(&Second), &SHOWN, 1, 33, 90_000);
     let queued = |item: &Item| matches!(item, Item::Handled(_, answer) if answer.contains("%"));
-    assert!(history.iter().any(queued));
-    assert!(!replay(&written(&Second, 1, &log)).contains('%'));
+    assert!(history(&happened).iter().any(queued));
+    assert!(!replay(&written(&Second, 1, &happened)).contains('%'));
 }
 
 /// What is asked of PANEL, and a log that cannot be written.

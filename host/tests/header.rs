@@ -1,7 +1,7 @@
 //! Each number of `include/in656.h` is what the compiled library answers.
 
-use host::comparing::both::BothEnds;
 use host::comparing::linked::library;
+use host::line::faced::BothEnds;
 use host::second::blocks::record_block;
 use host::second::face::{Answer, Call, Face};
 use host::second::framing::framed;

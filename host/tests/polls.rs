@@ -1,9 +1,9 @@
 //! When and with what each line is polled, from 001 6.9, 7.3, 8.6 and 8.8: rules K4, M1, M7 and E11 of the
 //! second version, and of the library where it is linked.
 
-use host::comparing::both::BothEnds;
 use host::comparing::linked::library;
-use host::line::demo::Ends;
+use host::line::ends::Ends;
+use host::line::faced::BothEnds;
 use host::making::random::Random;
 use host::making::telegrams::{any_form, of_form};
 use host::second::blocks::{master_block, master_in, record_block, MASTER};
@@ -13,8 +13,6 @@ use host::second::framing::framed;
 use host::second::master::{Master, Told, Why};
 use host::second::reading::{forms_on, read, SET};
 use host::second::records::{by_master, Record};
-use host::second::script::Bench;
-use host::second::words::in_row;
 use host::second::Second;
 
 /// Where the flag stands in the master's bytes.
@@ -253,24 +251,21 @@ fn a_hearing_without_room_leaves_the_flag() {
 }
 
 /// The times of the polls on a quiet line, where each answer comes at once; the panel turns the key at its times.
-fn polled(line: u8, keys: &[(u32, char)], until: u32) -> Vec<u32> {
-    let mut ends = Bench::new();
+fn polled(line: u8, keys: &[(u32, u8)], until: u32) -> Vec<u32> {
+    let mut ends = BothEnds::new(&Second);
     let mut times = Vec::new();
-    ends.call(&format!("desk start {line}"));
-    ends.call(&format!("master start {line} 0"));
+    ends.start(line, 0);
     for now in (0..=until).step_by(10) {
         for (_, key) in keys.iter().filter(|(time, _)| *time == now) {
-            assert!(ends.call(&format!("desk key {key}")).starts_with("done"));
+            assert_eq!(ends.desk_key(*key), Ok(()));
         }
-        assert!(ends.call(&format!("desk tick {now}")).starts_with("done"));
-        let told = ends.call(&format!("master tick {now} 66"));
-        if told.starts_with("polled") {
+        assert_eq!(ends.desk_tick(now), Ok(false));
+        let (told, sent) = ends.master_tick(now, ROOM);
+        if told == Told::Polled(1) {
             times.push(now);
-            let sent = in_row(&ends.master_sent.clone());
-            ends.call(&format!("desk hear {now} 66 {sent}"));
-            let sent = in_row(&ends.desk_sent.clone());
-            let told = ends.call(&format!("master hear {now} 66 {sent}"));
-            assert!(told.starts_with("answered"), "{told}");
+            let (_, _, answer) = ends.desk_hear(now, ROOM, &sent).expect("a hearing");
+            let (told, _) = ends.master_hear(now, ROOM, &answer);
+            assert!(matches!(told, Told::Answered(_, 1)), "{told:?}");
         }
     }
     times
@@ -282,7 +277,12 @@ fn quiet_lines() {
     assert_eq!(polled(1, &[], 65_000), [20_000, 40_000, 60_000]);
     assert_eq!(polled(2, &[], 16_000), [5_000, 10_000, 15_000]);
     assert_eq!(polled(3, &[], 35_000), [10_000, 20_000, 30_000]);
-    let keys = [(15_000, 'X'), (45_000, 'Y'), (65_000, 'X'), (95_000, 'A')];
+    let keys = [
+        (15_000, b'X'),
+        (45_000, b'Y'),
+        (65_000, b'X'),
+        (95_000, b'A'),
+    ];
     let times = [10, 20, 40, 60, 70, 90, 110, 120, 130].map(|seconds| seconds * 1_000);
     assert_eq!(polled(3, &keys, 135_000), times);
 }

@@ -2,16 +2,18 @@
 
 mod running;
 
-use host::comparing::both::BothEnds;
 use host::comparing::linked::library;
-use host::line::by_hand::by_hand;
+use host::line::ends::Ends;
+use host::line::faced::BothEnds;
 use host::making::logs::{log, log_of, small, spoil};
 use host::making::random::Random;
-use host::programs::scenes::Program;
+use host::programs::scenes::Scenes;
+use host::second::desk::ROOM;
+use host::second::face::Face;
 use host::second::framing::framed;
-use host::second::logs::{entries, Mark, HEAD};
-use host::second::replay::replay;
-use host::second::script::Bench;
+use host::second::logs::{entries, Entry, Mark, HEAD};
+use host::second::replay::{replay, replayed};
+use host::second::words::{hearing, ticked};
 use host::second::Second;
 use running::{on_line, REPLAY};
 
@@ -228,11 +230,23 @@ fn the_program_for_x86_64() {
     }
 }
 
+/// What the program `replay` prints for an input, by a desk that gets the calls by hand, record by record.
+fn by_hand(ends: &mut impl Ends, input: &[u8]) -> String {
+    replayed(input, |line| {
+        ends.start(line, 0);
+        move |entry: &Entry| match entry.mark {
+            Mark::Slave => None,
+            Mark::Hit => Some(ticked(ends.desk_tick(entry.time))),
+            Mark::Master => Some(hearing(ends.desk_hear(entry.time, ROOM, entry.bytes))),
+        }
+    })
+}
+
 /// The rows are what the desk of the program `scenes` does when it is run by hand, and that of the
 /// library where it is linked.
 #[test]
 fn the_desk_by_hand() {
-    let mut scenes = Program::of("scenes");
+    let mut scenes = Scenes::built();
     let mut random = Random::seeded(21);
     for round in 0..30 {
         let line = 1 + (round % 3) as u8;
@@ -240,12 +254,9 @@ fn the_desk_by_hand() {
         let input = on_line(line, &[&bytes]);
         let rows = replay(&input);
         assert_eq!(by_hand(&mut scenes, &input), rows, "scenes, round {round}");
-        assert_eq!(by_hand(&mut Bench::new(), &input), rows, "round {round}");
-        let face = library().unwrap_or(&Second);
-        assert_eq!(
-            by_hand(&mut BothEnds::new(face), &input),
-            rows,
-            "round {round}"
-        );
+        for face in library().into_iter().chain([&Second as &dyn Face]) {
+            let mut ends = BothEnds::new(face);
+            assert_eq!(by_hand(&mut ends, &input), rows, "round {round}");
+        }
     }
 }

@@ -3,9 +3,11 @@
 
 use host::making::random::Random;
 use host::making::scripts::script;
+use host::programs::answers::{done_in, hearing_in, telling_in, ticked_in};
 use host::programs::built::said;
 use host::second::clock::elapsed;
 use host::second::script::{run, Bench, Row};
+use host::second::words::{done, hearing, output, ticked, told};
 use std::path::{Path, PathBuf};
 
 /// A path in the repository.
@@ -108,6 +110,34 @@ fn made_scripts_reach() {
     ] {
         assert!(texts.contains(what), "{what} does not occur");
     }
+}
+
+/// The value that is read out of an answer says the same words again.
+#[test]
+fn answers_are_read() {
+    let mut random = Random::seeded(3_000);
+    let mut read = 0;
+    for line in 1..=3 {
+        let mut bench = Bench::new();
+        for text in script(&mut random, line, 20_000).lines() {
+            let came = bench.row(text);
+            let Some((answer, _)) = came.lines().nth(1).and_then(|came| came.rsplit_once(';'))
+            else {
+                continue;
+            };
+            let (row, answer) = (Row { text }, answer.trim());
+            let again = match (row.word(0), row.word(1)) {
+                (_, "alter" | "show") => continue,
+                ("master", _) => telling_in(answer).map(|(did, sent)| told(&did) + &output(&sent)),
+                (_, "tick") => ticked_in(answer).map(ticked),
+                (_, "hear") => hearing_in(answer).map(hearing),
+                _ => done_in(answer).map(done),
+            };
+            assert_eq!(again.as_deref(), Some(answer), "{text}");
+            read += 1;
+        }
+    }
+    assert!(read > 40_000, "{read}");
 }
 
 /// The made scripts have ticks of a free master just before and just when T0 runs out, on each line,

@@ -3,13 +3,14 @@
 //! else those of PROGRAM, which is `scenes`. LOG names a file for the log of what is shown. Where
 //! PANEL is `idle` the panel does nothing, and the line hits too; either may be empty.
 
-use host::comparing::both::BothEnds;
 use host::comparing::linked::library;
-use host::line::demo::logged;
+use host::line::demo::run;
+use host::line::faced::BothEnds;
 use host::line::log::written;
 use host::line::odds::{asked, IDLE, SHOWN};
+use host::line::timeline::timeline;
 use host::programs::arguments::{arguments, stop};
-use host::programs::scenes::Program;
+use host::programs::scenes::Scenes;
 use host::second::Second;
 
 fn main() {
@@ -30,21 +31,21 @@ fn main() {
         other => refuse(&format!("PANEL is idle or nothing, not '{other}'")),
     };
     let duration = seconds * 1_000;
-    let (text, _, log) = match (library(), path) {
-        (Ok(face), _) => logged(&mut BothEnds::new(face), &odds, line, seed, duration),
+    let happened = match (library(), path) {
+        (Ok(face), _) => run(&mut BothEnds::new(face), &odds, line, seed, duration),
         (Err(why), "") => refuse(&format!("{why}: name the program scenes")),
         (Err(_), path) => {
-            let started = Program::start(path);
+            let started = Scenes::start(path);
             let mut ends = started.unwrap_or_else(|why| refuse(&format!("{path}: {why}")));
-            logged(&mut ends, &odds, line, seed, duration)
+            run(&mut ends, &odds, line, seed, duration)
         }
     };
     if !file.is_empty() {
-        let bytes = written(library().unwrap_or(&Second), line, &log);
+        let bytes = written(library().unwrap_or(&Second), line, &happened);
         let done = std::fs::write(file, bytes);
         done.unwrap_or_else(|why| refuse(&format!("{file}: {why}")));
     }
-    print!("{text}");
+    print!("{}", timeline(line, &happened));
 }
 
 fn usage() -> ! {

@@ -2,11 +2,11 @@
 //! them, over lines that lose and spoil more and more. It prints which share of the telegrams
 //! ended in which way, and draws it.
 
-use host::line::demand::Item;
+use host::line::demand::{history, Item};
 use host::line::demo::run;
 use host::line::odds::Odds;
 use host::programs::arguments::{arguments, stop};
-use host::programs::scenes::Program;
+use host::programs::scenes::Scenes;
 use std::fmt::Write;
 
 /// How a telegram ended: answered after one, two or three sendings, or given up.
@@ -19,7 +19,7 @@ const ENDS: [(&str, &str); 4] = [
 
 /// The shares of the four ends on a line that hits this many things of a hundred: half of them it
 /// loses, half it spoils.
-fn shares(program: &mut Program, percent: usize) -> [f64; 4] {
+fn shares(program: &mut Scenes, percent: usize) -> [f64; 4] {
     let odds = Odds {
         lost: percent,
         spoiled: percent,
@@ -31,7 +31,7 @@ fn shares(program: &mut Program, percent: usize) -> [f64; 4] {
     let mut ended = [0usize; 4];
     for line in 1..=3 {
         for seed in 0..4 {
-            for item in run(program, &odds, line, seed, 600_000).1 {
+            for item in history(&run(program, &odds, line, seed, 600_000)) {
                 match item {
                     Item::Answered(_, _, count) => ended[count.clamp(1, 3) - 1] += 1,
                     Item::GivenUp(..) => ended[3] += 1,
@@ -86,7 +86,7 @@ fn main() {
         stop("usage: losses PROGRAM FILE.svg");
     };
     let mut program =
-        Program::start(path).unwrap_or_else(|why| stop(&format!("losses: {path}: {why}")));
+        Scenes::start(path).unwrap_or_else(|why| stop(&format!("losses: {path}: {why}")));
     let percents = (0..=60).step_by(5);
     let rows: Vec<(usize, [f64; 4])> = percents
         .map(|percent| (percent, shares(&mut program, percent)))

@@ -1,7 +1,6 @@
 //! Compares the library with the second version: makes the same calls on the same bytes, and after
 //! each call compares all that it answers and all that it may change.
 
-pub mod both;
 pub mod cuts;
 pub mod ends;
 #[cfg(archive)]

@@ -1,7 +1,12 @@
 //! The sentences of demand 3, judged on what happened in a run.
 
-/// What happened, oldest first. A telegram is its ordinal among the first sendings; an answer
-/// is its bytes.
+use crate::line::simulated::{Event, Happened, To};
+use crate::second::desk::Heard;
+use crate::second::master::Told;
+use crate::second::words::visible;
+
+/// What the demand speaks of, oldest first. A telegram is its ordinal among the first sendings; an
+/// answer is its bytes, as they are shown.
 #[derive(Debug, Clone, PartialEq, Eq)]
 pub enum Item {
     Sent(usize),
@@ -11,6 +16,40 @@ pub enum Item {
     Over(usize),
     Answered(usize, String, usize),
     GivenUp(usize, usize),
+}
+
+/// What the demand speaks of, of what happened.
+pub fn history(happened: &[Happened]) -> Vec<Item> {
+    happened.iter().flat_map(items).collect()
+}
+
+fn items(thing: &Happened) -> Vec<Item> {
+    let telegram = thing.telegram;
+    let noted = |lost: bool| lost.then_some(Item::Noted);
+    let over = [Item::Over(telegram)];
+    match &thing.event {
+        Event::Lost(To::Desk) => over.into(),
+        Event::Hit(To::Desk, lost) => noted(*lost).into_iter().chain(over).collect(),
+        Event::Noted => vec![Item::Noted],
+        Event::Heard(_, (lost, heard, sent)) => {
+            let is_handled = matches!(heard, Heard::Handled(_));
+            let handled = is_handled.then(|| Item::Handled(telegram, visible(sent)));
+            let items = noted(*lost).into_iter().chain(handled);
+            items.chain(over).collect()
+        }
+        Event::Told(heard, told, _) => match told {
+            Told::Sent(_) | Told::Polled(_) => vec![Item::Sent(telegram)],
+            Told::Again(_) => vec![Item::Again(telegram)],
+            Told::Answered(_, count) | Told::OtherKind(_, count) => {
+                vec![Item::Answered(telegram, visible(heard), (*count).into())]
+            }
+            Told::Silence(count) | Told::Rejected(count) => {
+                vec![Item::GivenUp(telegram, (*count).into())]
+            }
+            Told::Nothing | Told::Refused(_) | Told::Ignored(_) => Vec::new(),
+        },
+        _ => Vec::new(),
+    }
 }
 
 /// A sentence of the demand, and whether it holds.

@@ -1,5 +1,6 @@
 //! What a demonstration is asked for, and what its line and its panel do.
 
+use crate::line::simulated::Arrival;
 use crate::making::random::Random;
 
 /// How many things, of how many, the line loses, spoils or hits, when it is dead, in milliseconds,
@@ -48,25 +49,22 @@ pub fn asked(line: &str, seed: &str, seconds: &str) -> Result<(u8, u64, u32), St
     Ok((on as u8, from, time as u32))
 }
 
-/// What becomes of a thing on the line.
-pub enum Fate {
-    Whole,
-    Spoiled,
-    Hit,
-    Lost,
-}
-
 impl Odds {
-    /// Draws what becomes of a thing that arrives now.
-    pub fn fate(&self, random: &mut Random, now: u32) -> Fate {
+    /// Draws how a thing arrives now; `spoil` makes the frame where it arrives spoiled.
+    pub fn arrival(
+        &self,
+        random: &mut Random,
+        now: u32,
+        spoil: impl FnOnce(&mut Random) -> Vec<u8>,
+    ) -> Arrival {
         let drawn = random.below(self.of);
         if drawn < self.lost || self.dead.contains(&now) {
-            return Fate::Lost;
+            return Arrival::Lost;
         }
         match drawn - self.lost {
-            over if over < self.spoiled => Fate::Spoiled,
-            over if over < self.spoiled + self.hit => Fate::Hit,
-            _ => Fate::Whole,
+            over if over < self.spoiled => Arrival::Spoiled(spoil(random)),
+            over if over < self.spoiled + self.hit => Arrival::Hit,
+            _ => Arrival::Whole,
         }
     }
 }

@@ -35,6 +35,9 @@ pub enum Heard {
     Handled(Source),
 }
 
+/// Whether the line was noted lost, what came of a frame that the desk heard, and what it sends.
+pub type Hearing = (bool, Heard, Vec<u8>);
+
 /// The desk's state. `queued` is a count of its own, so that a script can put it out of its
 /// range; records behind that count are not looked at, and a missing one is no record.
 #[derive(Debug, Clone)]
@@ -154,13 +157,8 @@ impl Desk {
         Ok(())
     }
 
-    /// Hears a frame: whether the line was noted lost, what came of it, and what is sent.
-    pub fn hear(
-        &mut self,
-        now: u32,
-        room: usize,
-        frame: &[u8],
-    ) -> Result<(bool, Heard, Vec<u8>), Refusal> {
+    /// Hears a frame.
+    pub fn hear(&mut self, now: u32, room: usize, frame: &[u8]) -> Result<Hearing, Refusal> {
         if !self.in_ranges() {
             return Err(15);
         }

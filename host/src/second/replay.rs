@@ -2,7 +2,7 @@
 
 use crate::second::desk::{Desk, ROOM};
 use crate::second::logs::{entries, Entry, Mark};
-use crate::second::words::{done, heard, output};
+use crate::second::words::{hearing, ticked};
 
 /// What the program `replay` prints for an input.
 pub fn replay(input: &[u8]) -> String {
@@ -40,17 +40,7 @@ where
 fn acted(desk: &mut Desk, entry: &Entry) -> Option<String> {
     match entry.mark {
         Mark::Slave => None,
-        Mark::Hit => Some(match desk.tick(entry.time) {
-            Ok(true) => "line noted lost".into(),
-            Ok(false) => done(Ok(())),
-            Err(refusal) => done(Err(refusal)),
-        }),
-        Mark::Master => Some(match desk.hear(entry.time, ROOM, entry.bytes) {
-            Ok((lost, came, bytes)) => {
-                let noted = if lost { "line noted lost, " } else { "" };
-                format!("{noted}{}{}", heard(&came), output(&bytes))
-            }
-            Err(refusal) => done(Err(refusal)),
-        }),
+        Mark::Hit => Some(ticked(desk.tick(entry.time))),
+        Mark::Master => Some(hearing(desk.hear(entry.time, ROOM, entry.bytes))),
     }
 }

@@ -5,7 +5,9 @@ use crate::second::clock::elapsed;
 use crate::second::desk::Desk;
 use crate::second::master::Master;
 use crate::second::records::Record;
-use crate::second::words::{desk_whole, done, heard, line, master_whole, meant, output, told};
+use crate::second::words::{
+    desk_whole, done, hearing, line, master_whole, meant, output, ticked, told,
+};
 
 /// One desk and one master, and what each sent last.
 pub struct Bench {
@@ -99,23 +101,18 @@ impl Bench {
                 *desk = fresh;
                 done(refusal.map_or(Ok(()), Err))
             }
-            "tick" => match desk.tick(row.number(2)) {
-                Ok(true) => "line noted lost".into(),
-                Ok(false) => done(Ok(())),
-                Err(refusal) => done(Err(refusal)),
-            },
+            "tick" => ticked(desk.tick(row.number(2))),
             "queue" => done(desk.queue(row.record(2))),
             "set" => done(desk.set(row.record(2))),
             "key" => done(desk.turn_key(meant(row.rest(2)).first().copied().unwrap_or(0))),
-            "hear" => match desk.hear(row.number(2), row.number(3) as usize, &meant(row.rest(4))) {
-                Err(refusal) => done(Err(refusal)),
-                Ok((lost, came, bytes)) => {
-                    let noted = if lost { "line noted lost, " } else { "" };
-                    let text = format!("{noted}{}{}", heard(&came), output(&bytes));
-                    self.desk_sent = bytes;
-                    text
+            "hear" => {
+                let (now, room) = (row.number(2), row.number(3) as usize);
+                let answer = desk.hear(now, room, &meant(row.rest(4)));
+                if let Ok((_, _, bytes)) = &answer {
+                    self.desk_sent = bytes.clone();
                 }
-            },
+                hearing(answer)
+            }
             "show" => return format!("  {}{}\n", desk_whole(desk), self.desk_state()),
             "alter" => {
                 let value = row.number(3);

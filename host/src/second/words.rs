@@ -1,6 +1,6 @@
 //! The words of rows and answers, as the program `scenes` has them: docs/SCENES.md.
 
-use crate::second::desk::{Desk, Heard, Source};
+use crate::second::desk::{Desk, Heard, Hearing, Refusal, Source};
 use crate::second::master::{Master, Told, Why};
 use crate::second::reading::{CR, LF};
 use crate::second::records::Record;
@@ -76,7 +76,7 @@ pub fn line(good: bool) -> &'static str {
     }
 }
 
-fn source(source: &Source) -> String {
+pub fn source(source: &Source) -> String {
     match source {
         Source::Requested => "requested".into(),
         Source::Queue => "queue".into(),
@@ -88,12 +88,31 @@ fn source(source: &Source) -> String {
     }
 }
 
-pub fn heard(heard: &Heard) -> String {
+fn heard(heard: &Heard) -> String {
     match heard {
         Heard::Silent(refusal, place) => format!("silent, no {refusal} {place}"),
         Heard::Fault => "fault".into(),
         Heard::Repeat => "repeat".into(),
         Heard::Handled(from) => format!("handled, {}", source(from)),
+    }
+}
+
+/// What a desk's hearing answers.
+pub fn hearing(answer: Result<Hearing, Refusal>) -> String {
+    match answer {
+        Ok((lost, came, bytes)) => {
+            let noted = if lost { "line noted lost, " } else { "" };
+            format!("{noted}{}{}", heard(&came), output(&bytes))
+        }
+        Err(refusal) => done(Err(refusal)),
+    }
+}
+
+/// What a desk's tick answers.
+pub fn ticked(answer: Result<bool, Refusal>) -> String {
+    match answer {
+        Ok(true) => "line noted lost".into(),
+        other => done(other.map(|_| ())),
     }
 }
 
@@ -152,7 +171,7 @@ pub fn master_whole(master: &Master) -> String {
     format!("{text}, T2 {}, sends {}", master.t2, shown(&master.record))
 }
 
-pub fn done(result: Result<(), u8>) -> String {
+pub fn done(result: Result<(), Refusal>) -> String {
     match result {
         Ok(()) => "done".into(),
         Err(refusal) => format!("no {refusal} 0"),
