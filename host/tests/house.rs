@@ -184,7 +184,7 @@ fn lines_and_files_are_short() {
         let longest = text.lines().map(|l| l.chars().count()).max().unwrap_or(0);
         assert!(
             longest <= 400,
-            "{path:?} has a line of {longest} characters: tools/longlines.py --bind"
+            "{path:?} has a line of {longest} characters: bind its parts to names, or break it"
         );
         let proof = path.components().any(|c| c.as_os_str() == "proofs");
         assert!(

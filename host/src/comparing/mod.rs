@@ -41,7 +41,7 @@ pub struct Lent {
 }
 
 impl Lent {
-    pub fn lend(&mut self) -> &mut [u8] {
+    fn lend(&mut self) -> &mut [u8] {
         self.bytes.get_mut(..self.length).unwrap_or_default()
     }
 

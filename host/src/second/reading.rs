@@ -5,7 +5,7 @@ use crate::second::faults::is_on;
 pub const LF: u8 = 0x0A;
 pub const CR: u8 = 0x0D;
 /// The fewest and the most bytes of a telegram.
-pub const SHORTEST: usize = 10;
+const SHORTEST: usize = 10;
 pub const LONGEST: usize = 66;
 
 /// The limited character set, 75 codes.
@@ -84,7 +84,7 @@ impl Form {
     }
 
     /// The length of the data field.
-    pub fn field_length(&self) -> usize {
+    fn field_length(&self) -> usize {
         self.letters()
             .map(|(_, patterns)| 1 + value_length(patterns))
             .sum()

@@ -72,7 +72,7 @@ impl Bench {
     }
 
     /// The desk's state as each answer says it.
-    pub fn desk_state(&self) -> String {
+    fn desk_state(&self) -> String {
         let desk = &self.desk;
         format!(
             "; {}, last {}, queued {}",
@@ -83,7 +83,7 @@ impl Bench {
     }
 
     /// The master's state as each answer says it.
-    pub fn master_state(&self) -> String {
+    fn master_state(&self) -> String {
         let master = &self.master;
         format!(
             "; {}, number {}, count {}",
