@@ -1,5 +1,5 @@
 #!/usr/bin/env python3
-"""The table of docs/CHANGES.md: the size of each crate and the time of its check, before and after.
+"""The size of each crate and the time of its check, before and after: what an entry of docs/CHANGES.md is written from.
 
     tools/sizes.py BEFORE AFTER [OLD=NEW..]
 
