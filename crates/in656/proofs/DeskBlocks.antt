@@ -10,7 +10,7 @@ use Rattle.desk.proofs.replying.Source as st
 use Rattle.desk.specs.declared.heard.Heard as h
 use Rattle.desk.proofs.heard.Heard as ht
 use Rattle.desk.specs.Heard as d
-use Rattle.in656.specs.DeskCalls.{panelBlock, toldBlock}
+use Rattle.in656.specs.Desks.{panelBlock, toldBlock}
 
 -- an answer that does not go with a record for the panel
 pub other-source : (source : s.Source) (block : List ℕ) → OneOf (0 ∷ 1 ∷ 2 ∷ 4 ∷ 5 ∷ 6 ∷ []) (tagOf st.the-type source) → block ≡ panelBlock (originOf source) block

@@ -11,7 +11,7 @@ use Rattle.blocks.specs.Record.{recordLength}
 use Rattle.blocks.specs.Desks as ds
 use Rattle.in656.specs.declared.results.result.In656Result.{In656Result}
 use Rattle.in656.specs.Results.Desks.{heardResult}
-use Rattle.in656.specs.DeskCalls as desk
+use Rattle.in656.specs.Desks as desk
 
 -- the desk's hearing with a record block of another length
 pub desk-refuses : (b : List ℕ) (time : ℕ) (frame block out : List ℕ) (x y : Desk) (told : d.Told) (o : List ℕ) (r : In656Result)

@@ -1,6 +1,6 @@
 pub mod Results
 pub mod Inputs
-pub mod DeskCalls
+pub mod Desks
 pub mod Telegrams
 pub mod Logs
 pub mod Gatherers

@@ -1,5 +1,4 @@
 // The C face (include/in656.h): the exported functions, on numbers and lent bytes.
-pub mod deskcalls;
 pub mod desks;
 pub mod gatherers;
 pub mod inputs;

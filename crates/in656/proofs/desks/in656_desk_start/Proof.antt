@@ -1,11 +1,11 @@
--- `start` meets its contract. Assumes nothing.
+-- `in656::desks::in656_desk_start` meets its contract. Assumes nothing.
 use borrow.Author.Needs.{needs}
-use Rattle.in656.proofs.deskcalls.start.Statement.{statement}
-use Rattle.in656.proofs.deskcalls.start.Tie as tie
+use Rattle.in656.proofs.desks.in656_desk_start.Statement.{statement}
+use Rattle.in656.proofs.desks.in656_desk_start.Tie as tie
 
 returns : tie.Need-returns
 returns c = rw (c .before .before .close .ensures, c .before .before .before .before .start .ensures, c .before .before .before .before .before .line-for .ensures)
 
-pub start-spec : {M : Type 1} → statement M
-start-spec =
+pub in656-desk-start-spec : {M : Type 1} → statement M
+in656-desk-start-spec =
     tie.close (tie.spec (λ c κs. search needs) (λ c κs. search needs) (λ c κs. search needs) (λ c. search needs) returns)

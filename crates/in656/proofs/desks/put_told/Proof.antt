@@ -2,8 +2,8 @@
 use Rattle.in656.proofs.DeskBlocks.{other-heard}
 use denote.Ref.{now}
 use borrow.Author.Needs.{needs}
-use Rattle.in656.proofs.deskcalls.put_told.Statement.{statement}
-use Rattle.in656.proofs.deskcalls.put_told.Tie as tie
+use Rattle.in656.proofs.desks.put_told.Statement.{statement}
+use Rattle.in656.proofs.desks.put_told.Tie as tie
 
 returns : tie.Need-returns
 returns c = rw (c .before .before .before .before .before .answer .given .1) (c .before .before .put-panel .ensures)

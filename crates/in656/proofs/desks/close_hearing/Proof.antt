@@ -1,9 +1,9 @@
 -- `close_hearing` meets its contract. Assumes nothing.
-use Rattle.in656.specs.DeskCalls.{heardParts, deskAfter}
+use Rattle.in656.specs.Desks.{heardParts, deskAfter}
 use borrow.Author.Tests.{eq-eqb, ne-eqb}
 use borrow.Author.Needs.{needs}
-use Rattle.in656.proofs.deskcalls.close_hearing.Statement.{statement}
-use Rattle.in656.proofs.deskcalls.close_hearing.Tie as tie
+use Rattle.in656.proofs.desks.close_hearing.Statement.{statement}
+use Rattle.in656.proofs.desks.close_hearing.Tie as tie
 
 returns : tie.Need-returns
 unfolding heardParts deskAfter

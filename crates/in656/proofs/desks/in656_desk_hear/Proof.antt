@@ -1,9 +1,9 @@
--- `hear` meets its contract. Assumes nothing.
+-- `in656::desks::in656_desk_hear` meets its contract. Assumes nothing.
 use Rattle.in656.proofs.DeskCalled.{desk-refuses, desk-hears}
 use denote.Ref.{now}
 use borrow.Author.Needs.{needs}
-use Rattle.in656.proofs.deskcalls.hear.Statement.{statement}
-use Rattle.in656.proofs.deskcalls.hear.Tie as tie
+use Rattle.in656.proofs.desks.in656_desk_hear.Statement.{statement}
+use Rattle.in656.proofs.desks.in656_desk_hear.Tie as tie
 
 returns : tie.Need-returns
 returns c =
@@ -23,8 +23,8 @@ returns-2 c =
     desk-hears (now (a .state)) (a .time) (now (a .frame)) (now (a .block)) (now (a .out)) _ _ _ _ _ _ _ (load .ensures) (if1 .left) (hear2 .ensures)
     (close-hearing .ensures)
 
-pub hear-spec : {M : Type 1} → statement M
-hear-spec =
+pub in656-desk-hear-spec : {M : Type 1} → statement M
+in656-desk-hear-spec =
     tie.close
     (tie.spec
     (λ c κs. search needs) (λ c. search needs) (λ c κs. search needs) (λ c κs. search needs) (λ c. search needs) returns (λ c κs. search needs)

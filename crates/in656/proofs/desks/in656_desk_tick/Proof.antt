@@ -1,11 +1,11 @@
--- `tick` meets its contract. Assumes nothing.
+-- `in656::desks::in656_desk_tick` meets its contract. Assumes nothing.
 use borrow.Author.Needs.{needs}
-use Rattle.in656.proofs.deskcalls.tick.Statement.{statement}
-use Rattle.in656.proofs.deskcalls.tick.Tie as tie
+use Rattle.in656.proofs.desks.in656_desk_tick.Statement.{statement}
+use Rattle.in656.proofs.desks.in656_desk_tick.Tie as tie
 
 returns : tie.Need-returns
 returns c = rw (c .before .before .close .ensures, c .before .before .before .before .tick .ensures, c .before .before .before .before .before .load .ensures)
 
-pub tick-spec : {M : Type 1} → statement M
-tick-spec =
+pub in656-desk-tick-spec : {M : Type 1} → statement M
+in656-desk-tick-spec =
     tie.close (tie.spec (λ c κs. search needs) (λ c κs. search needs) (λ c κs. search needs) (λ c. search needs) returns)

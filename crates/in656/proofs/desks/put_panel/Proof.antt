@@ -2,8 +2,8 @@
 use Rattle.in656.proofs.DeskBlocks.{other-source}
 use denote.Ref.{now}
 use borrow.Author.Needs.{needs}
-use Rattle.in656.proofs.deskcalls.put_panel.Statement.{statement}
-use Rattle.in656.proofs.deskcalls.put_panel.Tie as tie
+use Rattle.in656.proofs.desks.put_panel.Statement.{statement}
+use Rattle.in656.proofs.desks.put_panel.Tie as tie
 
 returns : tie.Need-returns
 returns c = rw (c .before .before .before .before .before .source .given .1) (c .before .before .put-record .ensures)

@@ -1,9 +1,9 @@
 -- `close` meets its contract. Assumes nothing.
-use Rattle.in656.specs.DeskCalls.{stepped, deskAfter}
+use Rattle.in656.specs.Desks.{stepped, deskAfter}
 use borrow.Author.Tests.{eq-eqb, ne-eqb}
 use borrow.Author.Needs.{needs}
-use Rattle.in656.proofs.deskcalls.close.Statement.{statement}
-use Rattle.in656.proofs.deskcalls.close.Tie as tie
+use Rattle.in656.proofs.desks.close.Statement.{statement}
+use Rattle.in656.proofs.desks.close.Tie as tie
 
 returns : tie.Need-returns
 unfolding stepped deskAfter

@@ -1,7 +1,7 @@
--- `set` meets its contract. Assumes nothing.
+-- `in656::desks::in656_desk_set` meets its contract. Assumes nothing.
 use borrow.Author.Needs.{needs}
-use Rattle.in656.proofs.deskcalls.set.Statement.{statement}
-use Rattle.in656.proofs.deskcalls.set.Tie as tie
+use Rattle.in656.proofs.desks.in656_desk_set.Statement.{statement}
+use Rattle.in656.proofs.desks.in656_desk_set.Tie as tie
 
 returns : tie.Need-returns
 returns c =
@@ -10,7 +10,7 @@ returns c =
     let set = c .before .before .before .before .set in
     rw (c .before .before .close .ensures, set .ensures, meaning .ensures, load .ensures)
 
-pub set-spec : {M : Type 1} → statement M
-set-spec =
+pub in656-desk-set-spec : {M : Type 1} → statement M
+in656-desk-set-spec =
     tie.close
     (tie.spec (λ c κs. search needs) (λ c κs. search needs) (λ c κs. search needs) (λ c κs. search needs) (λ c. search needs) returns)

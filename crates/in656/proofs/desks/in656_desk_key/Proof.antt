@@ -1,7 +1,7 @@
--- `key` meets its contract. Assumes nothing.
+-- `in656::desks::in656_desk_key` meets its contract. Assumes nothing.
 use borrow.Author.Needs.{needs}
-use Rattle.in656.proofs.deskcalls.key.Statement.{statement}
-use Rattle.in656.proofs.deskcalls.key.Tie as tie
+use Rattle.in656.proofs.desks.in656_desk_key.Statement.{statement}
+use Rattle.in656.proofs.desks.in656_desk_key.Tie as tie
 
 returns : tie.Need-returns
 returns c =
@@ -10,7 +10,7 @@ returns c =
     let turn-key = c .before .before .before .before .turn-key in
     rw (c .before .before .close .ensures, turn-key .ensures, byte-or .ensures, load .ensures)
 
-pub key-spec : {M : Type 1} → statement M
-key-spec =
+pub in656-desk-key-spec : {M : Type 1} → statement M
+in656-desk-key-spec =
     tie.close
     (tie.spec (λ c κs. search needs) (λ c κs. search needs) (λ c κs. search needs) (λ c κs. search needs) (λ c. search needs) returns)
