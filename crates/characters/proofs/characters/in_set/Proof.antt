@@ -45,4 +45,7 @@ all c =
 pub in-set-spec : {M : Type 1} → statement M
 in-set-spec =
     tie.close
-    (tie.spec (λ c κs. search needs) (λ c κs. search needs) (λ c κs. search needs) (λ c κs. search needs) (λ c κs. search needs) (λ c κs. search needs) (λ c. c .if10 .taken ∙ rw (c .if10 .taken) at (all (c .before))) (λ c. c .from6 .ensures ∙ rw (c .before .if10 .left) at (all (c .before .before))))
+    (tie.spec
+    (λ c κs. search needs) (λ c κs. search needs) (λ c κs. search needs) (λ c κs. search needs) (λ c κs. search needs) (λ c κs. search needs)
+    (λ c. c .if10 .taken ∙ rw (c .if10 .taken) at (all (c .before)))
+    (λ c. c .from6 .ensures ∙ rw (c .before .if10 .left) at (all (c .before .before))))

@@ -7,4 +7,7 @@ use Rattle.characters.proofs.slices.byte_at.Statement.{statement}
 use Rattle.characters.proofs.slices.byte_at.Tie as tie
 
 pub byte-at-spec : {M : Type 1} → statement M
-byte-at-spec = tie.close (tie.spec (λ c. search needs) (λ c. search needs) (λ c. sym (List·getD-eq-default (now (c .before .args .s)) 0 (c .if1 .left))))
+byte-at-spec =
+    tie.close
+    (tie.spec
+    (λ c. search needs) (λ c. search needs) (λ c. sym (List·getD-eq-default (now (c .before .args .s)) 0 (c .if1 .left))))

@@ -13,9 +13,6 @@ Inv-loop s from end most back₀ back = NoLf s end back
 abbrev μ-loop : tie.MeasureT-loop
 μ-loop s from end most back₀ back = most + 1 - back
 
-less-requires : tie.Need-less-requires Inv-loop μ-loop
-less-requires c κs = search needs
-
 loop-holds : tie.Need-loop-holds Inv-loop μ-loop
 loop-holds c = let a = c .before .before in no-lf-yet (now (a .args .s)) (a .args .from) (a .args .end)
 
@@ -25,9 +22,6 @@ returns c =
     let l = t .loop in
     let a = t .before .before .before in
     no-lf-near (now (a .args .s)) (a .args .from) (a .args .end) (l .back) (l .inv) (λ k u e. omega (arith, c .if1 .taken))
-
-sub-if2 : tie.Need-sub-if2 Inv-loop μ-loop
-sub-if2 c = omega (arith, c .before .loop-test .taken, c .before .before .before .less .ensures)
 
 shared-slice-read-if2 : tie.Need-shared-slice-read-if2 Inv-loop μ-loop
 shared-slice-read-if2 c =
@@ -40,12 +34,6 @@ returns-2 c =
     let l = t .before .loop in
     let a = t .before .before .before .before in
     lf-at (now (a .args .s)) (a .args .from) (a .args .end) (l .back) (l .inv) (c .before .before .if1 .left) (omega (arith, t .loop-test .taken, t .before .before .less .ensures)) (c .if2 .taken)
-
-add-back : tie.Need-add-back Inv-loop μ-loop
-add-back c = omega (arith, c .before .before .if1 .left)
-
-loop-less : tie.Need-loop-less Inv-loop μ-loop
-loop-less c = omega (arith, c .before .before .before .loop-test .taken)
 
 loop-again : tie.Need-loop-again Inv-loop μ-loop
 loop-again c =
@@ -65,4 +53,6 @@ pub near-lf-spec : {M : Type 1} → statement M
 near-lf-spec =
     tie.close
     (tie.spec
-    Inv-loop μ-loop less-requires loop-holds returns sub-if2 shared-slice-read-if2 returns-2 add-back loop-less loop-again returns-3)
+    Inv-loop μ-loop (λ c κs. search needs) loop-holds returns
+    (λ c. omega (arith, c .before .loop-test .taken, c .before .before .before .less .ensures)) shared-slice-read-if2 returns-2
+    (λ c. omega (arith, c .before .before .if1 .left)) (λ c. omega (arith, c .before .before .before .loop-test .taken)) loop-again returns-3)

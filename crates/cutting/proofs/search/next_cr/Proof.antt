@@ -13,23 +13,11 @@ Inv-loop s from i₀ i = NoCr s from i
 abbrev μ-loop : tie.MeasureT-loop
 μ-loop s from i₀ i = length s - i
 
-loop-holds : tie.Need-loop-holds Inv-loop μ-loop
-loop-holds c = no-cr-yet (now (c .args .s)) (c .args .from)
-
-shared-slice-read-if1 : tie.Need-shared-slice-read-if1 Inv-loop μ-loop
-shared-slice-read-if1 c = search needs
-
 returns : tie.Need-returns Inv-loop μ-loop
 returns c =
     let t = c .before .before .before in
     let l = t .loop in
     cr-at (now (t .before .args .s)) (t .before .args .from) (l .i) (l .inv) (c .if1 .taken)
-
-add-i : tie.Need-add-i Inv-loop μ-loop
-add-i c = search needs
-
-loop-less : tie.Need-loop-less Inv-loop μ-loop
-loop-less c = search needs
 
 loop-again : tie.Need-loop-again Inv-loop μ-loop
 loop-again c =
@@ -47,4 +35,5 @@ pub next-cr-spec : {M : Type 1} → statement M
 next-cr-spec =
     tie.close
     (tie.spec
-    Inv-loop μ-loop loop-holds shared-slice-read-if1 returns add-i loop-less loop-again returns-2)
+    Inv-loop μ-loop (λ c. no-cr-yet (now (c .args .s)) (c .args .from)) (λ c. search needs) returns (λ c. search needs) (λ c. search needs) loop-again
+    returns-2)

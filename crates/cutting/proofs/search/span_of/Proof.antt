@@ -15,26 +15,11 @@ Inv-loop s from place₀ place = Passed s from place
 abbrev μ-loop : tie.MeasureT-loop
 μ-loop s from place₀ place = length s - place
 
-loop-holds : tie.Need-loop-holds Inv-loop μ-loop
-loop-holds c = none-passed (now (c .before .args .s)) (c .before .args .from)
-
-next-cr-requires : tie.Need-next-cr-requires Inv-loop μ-loop
-next-cr-requires c κs = search needs
-
 returns : tie.Need-returns Inv-loop μ-loop
 returns c =
     let l = c .before .before .before in
     let a = l .before .before .args in
     no-telegram-ends (now (a .s)) (a .from) (l .loop .place) (c .before .next-cr .result) (l .loop .inv) (c .before .next-cr .ensures) (c .if1 .taken)
-
-near-lf-requires : tie.Need-near-lf-requires Inv-loop μ-loop
-near-lf-requires c κs = omega (arith, c .if1 .left)
-
-sub-t8 : tie.Need-sub-t8 Inv-loop μ-loop
-sub-t8 c = omega (arith, c .before .near-lf .ensures .stands (c .if2 .taken) .2)
-
-add-t9 : tie.Need-add-t9 Inv-loop μ-loop
-add-t9 c = search needs
 
 returns-2 : tie.Need-returns-2 Inv-loop μ-loop
 returns-2 c =
@@ -43,9 +28,6 @@ returns-2 c =
     let a = l .before .before .args in
     let near = c .before .near-lf in
     first-ends (now (a .s)) (a .from) (l .loop .place) (n .next-cr .result) (near .result) (l .loop .inv) (n .next-cr .ensures) (c .before .before .if1 .left) (near .ensures) (c .if2 .taken)
-
-add-place : tie.Need-add-place Inv-loop μ-loop
-add-place c = search needs
 
 loop-less : tie.Need-loop-less Inv-loop μ-loop
 loop-less c =
@@ -71,4 +53,6 @@ pub span-of-spec : {M : Type 1} → statement M
 span-of-spec =
     tie.close
     (tie.spec
-    Inv-loop μ-loop loop-holds next-cr-requires returns near-lf-requires sub-t8 add-t9 returns-2 add-place loop-less loop-again returns-3)
+    Inv-loop μ-loop (λ c. none-passed (now (c .before .args .s)) (c .before .args .from)) (λ c κs. search needs) returns
+    (λ c κs. omega (arith, c .if1 .left)) (λ c. omega (arith, c .before .near-lf .ensures .stands (c .if2 .taken) .2)) (λ c. search needs) returns-2
+    (λ c. search needs) loop-less loop-again returns-3)

@@ -10,21 +10,15 @@ use Rattle.desk.proofs.applying.repeat.Reads as repeat-reads
 fault-requires : tie.Need-fault-requires
 fault-requires c κs = let p = c .before .before .before .before .before .pre in (p .0, rw (c .before .before .rule2 .given .1) at (p .1), p .2)
 
-returns-2 : tie.Need-returns-2
-returns-2 c = rw (c .before .before .before .before .before .rule2 .given .1) (c .before .before .fault .ensures)
-
-returns-3 : tie.Need-returns-3
-returns-3 c = rw (c .before .before .before .before .enum-told .given .1) (c .before .before .repeat .ensures)
-
 handle-requires : tie.Need-handle-requires
 handle-requires c κs = let p = c .before .before .before .before .before .pre in (p .0, rw (c .before .before .rule3 .given .1) at (p .1), p .2)
-
-returns-4 : tie.Need-returns-4
-returns-4 c = rw (c .before .before .before .before .before .rule3 .given .1) (c .before .before .handle .ensures)
 
 pub apply-spec : {M : Type 1} → statement M
 apply-spec =
     tie.close
     (tie.spec
-    (λ c. search needs) (λ c. rw (c .before .rule .given .1)) (λ c. search needs) fault-requires (λ c. search needs) returns-2 (λ c. search needs)
-    (λ c κs. search needs) (λ c. search needs) returns-3 (λ c. search needs) handle-requires (λ c. search needs) returns-4)
+    (λ c. search needs) (λ c. rw (c .before .rule .given .1)) (λ c. search needs) fault-requires (λ c. search needs)
+    (λ c. rw (c .before .before .before .before .before .rule2 .given .1) (c .before .before .fault .ensures)) (λ c. search needs)
+    (λ c κs. search needs) (λ c. search needs) (λ c. rw (c .before .before .before .before .enum-told .given .1) (c .before .before .repeat .ensures))
+    (λ c. search needs) handle-requires (λ c. search needs)
+    (λ c. rw (c .before .before .before .before .before .rule3 .given .1) (c .before .before .handle .ensures)))

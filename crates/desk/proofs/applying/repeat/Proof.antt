@@ -34,6 +34,4 @@ returns c = let a = c .before .before .before .before .before .before .before .a
     repeat-sent (a .desk) (now (a .out)) _ _ (c .before .before .copy .ensures .0) (c .before .before .copy .ensures .1)
 
 pub repeat-spec : {M : Type 1} → statement M
-repeat-spec =
-    tie.close
-    (tie.spec array-share-prefix-stored slice-aggregate-copy copy-requires (λ c. search needs) returns)
+repeat-spec = tie.close (tie.spec array-share-prefix-stored slice-aggregate-copy copy-requires (λ c. search needs) returns)

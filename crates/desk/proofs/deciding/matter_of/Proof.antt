@@ -30,5 +30,4 @@ returns-4 c =
     (c .if3 .left)
 
 pub matter-of-spec : {M : Type 1} → statement M
-matter-of-spec =
-    tie.close (tie.spec (λ c κs. search needs) (λ c κs. search needs) returns returns-2 returns-3 returns-4)
+matter-of-spec = tie.close (tie.spec (λ c κs. search needs) (λ c κs. search needs) returns returns-2 returns-3 returns-4)

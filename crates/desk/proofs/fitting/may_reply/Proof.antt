@@ -23,6 +23,4 @@ returns-2 c = let s = c .before .before .before .args in
     rw h
 
 pub may-reply-spec : {M : Type 1} → statement M
-may-reply-spec =
-    tie.close
-    (tie.spec (λ c κs. search needs) (λ c κs. search needs) (λ c κs. search needs) returns returns-2)
+may-reply-spec = tie.close (tie.spec (λ c κs. search needs) (λ c κs. search needs) (λ c κs. search needs) returns returns-2)

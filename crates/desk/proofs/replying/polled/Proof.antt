@@ -5,13 +5,10 @@ use borrow.Author.Needs.{needs}
 use Rattle.desk.proofs.replying.polled.Statement.{statement}
 use Rattle.desk.proofs.replying.polled.Tie as tie
 
-returns : tie.Need-returns
-unfolding polledOf
-returns c = rw (c .key-on .ensures, eq-eqb (c .before .before .args .queued) 0 (c .before .if1 .taken))
-
-returns-2 : tie.Need-returns-2
-unfolding polledOf
-returns-2 c = rw (ne-eqb (c .before .args .queued) 0 (c .if1 .left))
-
 pub polled-spec : {M : Type 1} → statement M
-polled-spec = tie.close (tie.spec (λ c κs. search needs) (λ c. search needs) returns returns-2)
+unfolding polledOf
+polled-spec =
+    tie.close
+    (tie.spec
+    (λ c κs. search needs) (λ c. search needs) (λ c. rw (c .key-on .ensures, eq-eqb (c .before .before .args .queued) 0 (c .before .if1 .taken)))
+    (λ c. rw (ne-eqb (c .before .args .queued) 0 (c .if1 .left))))

@@ -17,23 +17,11 @@ Inv-loop line n queue i₀ i = (i ≤ 8) × (every (waitingFits line) (drop i (t
 abbrev μ-loop : tie.MeasureT-loop
 μ-loop line n queue i₀ i = 8 - i
 
-loop-holds : tie.Need-loop-holds Inv-loop μ-loop
-loop-holds c = (omega arith, refl)
-
 returns : tie.Need-returns Inv-loop μ-loop
 returns c =
     let a = c .before .before .before .args in
     let l = c .before .before .loop in
     sym (no-place (waitingFits (a .line)) (a .t2) (a .n) (l .i) (omega (arith, length-take (a .n) (a .t2)))) ∙ l .inv .1
-
-mul-waiting : tie.Need-mul-waiting Inv-loop μ-loop
-mul-waiting c = search needs
-
-array-copy-out-waiting : tie.Need-array-copy-out-waiting Inv-loop μ-loop
-array-copy-out-waiting c = search needs
-
-may-reply-requires : tie.Need-may-reply-requires Inv-loop μ-loop
-may-reply-requires c κs = search needs
 
 returns-2 : tie.Need-returns-2 Inv-loop μ-loop
 returns-2 c =
@@ -44,12 +32,6 @@ returns-2 c =
     (place-bad (waitingFits (a .line)) (a .t2) (a .n) (l .i) blank (omega arith) (omega arith)
     (sym (c .before .may-reply .ensures) ∙ not-true _ (c .if2 .taken)))
     ∙ l .inv .1
-
-add-i : tie.Need-add-i Inv-loop μ-loop
-add-i c = search needs
-
-loop-less : tie.Need-loop-less Inv-loop μ-loop
-loop-less c = search needs
 
 loop-again : tie.Need-loop-again Inv-loop μ-loop
 loop-again c =
@@ -73,4 +55,5 @@ pub queue-fits-spec : {M : Type 1} → statement M
 queue-fits-spec =
     tie.close
     (tie.spec
-    Inv-loop μ-loop loop-holds returns mul-waiting array-copy-out-waiting may-reply-requires returns-2 add-i loop-less loop-again returns-3)
+    Inv-loop μ-loop (λ c. (omega arith, refl)) returns (λ c. search needs) (λ c. search needs) (λ c κs. search needs) returns-2 (λ c. search needs)
+    (λ c. search needs) loop-again returns-3)

@@ -18,16 +18,10 @@ array-copy-out-result c =
     let h = from-bounds 1 (length lines) (c .before .before .args .line) (sym (c .before .is-line .ensures) ∙ c .if1 .taken) in
     omega arith
 
-returns : tie.Need-returns
-unfolding lineOf
-returns c = rw (← (c .before .before .is-line .ensures), c .before .if1 .taken)
-
-returns-2 : tie.Need-returns-2
-unfolding lineOf
-returns-2 c = rw (← (c .before .is-line .ensures), c .if1 .left)
-
 pub line-of-spec : {M : Type 1} → statement M
+unfolding lineOf
 line-of-spec =
     tie.close
     (tie.spec
-    (λ c κs. search needs) sub-result (λ c. search needs) (λ c. search needs) array-copy-out-result returns returns-2)
+    (λ c κs. search needs) sub-result (λ c. search needs) (λ c. search needs) array-copy-out-result
+    (λ c. rw (← (c .before .before .is-line .ensures), c .before .if1 .taken)) (λ c. rw (← (c .before .is-line .ensures), c .if1 .left)))

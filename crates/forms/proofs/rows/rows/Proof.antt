@@ -4,9 +4,6 @@ use Rattle.forms.specs.Rows.{forms}
 use Rattle.forms.proofs.rows.rows.Statement.{statement}
 use Rattle.forms.proofs.rows.rows.Tie as tie
 
-returns : tie.Need-returns
-unfolding forms
-returns c = refl
-
 pub rows-spec : {M : Type 1} → statement M
-rows-spec = tie.close (tie.spec returns)
+unfolding forms
+rows-spec = tie.close (tie.spec (λ c. refl))

@@ -6,9 +6,6 @@ use borrow.Author.Needs.{needs}
 use Rattle.forms.proofs.table.data_type.Statement.{statement}
 use Rattle.forms.proofs.table.data_type.Tie as tie
 
-returns : tie.Need-returns
-unfolding dataType
-returns c = ap (λ (l : Looked). l .form .kind) (c .look .ensures)
-
 pub data-type-spec : {M : Type 1} → statement M
-data-type-spec = tie.close (tie.spec (λ c κs. search needs) returns)
+unfolding dataType
+data-type-spec = tie.close (tie.spec (λ c κs. search needs) (λ c. ap (λ (l : Looked). l .form .kind) (c .look .ensures)))

@@ -17,35 +17,17 @@ Inv-loop line sought table i₀ i = (length table ≡ 14) × (i ≤ 14) × (look
 abbrev μ-loop : tie.MeasureT-loop
 μ-loop line sought table i₀ i = 14 - i
 
-rows-requires : tie.Need-rows-requires Inv-loop μ-loop
-rows-requires c κs = search needs
-
 loop-holds : tie.Need-loop-holds Inv-loop μ-loop
 unfolding forms
 loop-holds c =
     let a = c .before .args in let e = c .rows .ensures in
     (ap (λ (t : List Form). length t) e, omega arith, ap (λ (t : List Form). lookIn t (testOf (a .sought) (a .line))) e)
 
-mul-form : tie.Need-mul-form Inv-loop μ-loop
-mul-form c = search needs
-
-array-copy-out-form : tie.Need-array-copy-out-form Inv-loop μ-loop
-array-copy-out-form c = search needs
-
-fits-requires : tie.Need-fits-requires Inv-loop μ-loop
-fits-requires c κs = search needs
-
 returns : tie.Need-returns Inv-loop μ-loop
 returns c =
     let b = c .before .before .before in let l = b .before .loop in
     let a = b .before .before .before .args in
     sym (hit (b .before .before .rows .result) (l .i) _ (testOf (a .sought) (a .line)) (omega (arith, l .inv .0)) (sym (c .before .fits2 .ensures) ∙ c .if1 .taken)) ∙ l .inv .2
-
-add-i : tie.Need-add-i Inv-loop μ-loop
-add-i c = omega arith
-
-loop-less : tie.Need-loop-less Inv-loop μ-loop
-loop-less c = omega arith
 
 loop-again : tie.Need-loop-again Inv-loop μ-loop
 loop-again c =
@@ -62,4 +44,5 @@ pub look-spec : {M : Type 1} → statement M
 look-spec =
     tie.close
     (tie.spec
-    Inv-loop μ-loop rows-requires loop-holds mul-form array-copy-out-form fits-requires returns add-i loop-less loop-again returns-2)
+    Inv-loop μ-loop (λ c κs. search needs) loop-holds (λ c. search needs) (λ c. search needs) (λ c κs. search needs) returns (λ c. omega arith)
+    (λ c. omega arith) loop-again returns-2)

@@ -9,10 +9,6 @@ use borrow.Author.Needs.{needs}
 use Rattle.logs.proofs.reader.known.Statement.{statement}
 use Rattle.logs.proofs.reader.known.Tie as tie
 
-returns : tie.Need-returns
-unfolding knownIn
-returns c = search tests
-
 returns-2 : tie.Need-returns-2
 returns-2 c =
     let a = c .before .before .before .before .before .before .args in
@@ -42,8 +38,9 @@ returns-4 c =
     (c .before .before .if3 .left) _ _ (c .before .part .ensures) (c .four-said .ensures)
 
 pub known-spec : {M : Type 1} → statement M
+unfolding knownIn
 known-spec =
     tie.close
     (tie.spec
-    returns (λ c κs. search needs) (λ c κs. search needs) (λ c κs. search needs) returns-2 (λ c. search needs) returns-3 (λ c. search needs)
-    (λ c κs. search needs) (λ c κs. search needs) (λ c. search needs) returns-4)
+    (λ c. search tests) (λ c κs. search needs) (λ c κs. search needs) (λ c κs. search needs) returns-2 (λ c. search needs) returns-3
+    (λ c. search needs) (λ c κs. search needs) (λ c κs. search needs) (λ c. search needs) returns-4)

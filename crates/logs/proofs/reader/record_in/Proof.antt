@@ -7,14 +7,6 @@ use borrow.Author.Needs.{needs}
 use Rattle.logs.proofs.reader.record_in.Statement.{statement}
 use Rattle.logs.proofs.reader.record_in.Tie as tie
 
-returns : tie.Need-returns
-unfolding recordIn
-returns c = search tests
-
-returns-2 : tie.Need-returns-2
-unfolding recordIn
-returns-2 c = search tests
-
 returns-3 : tie.Need-returns-3
 returns-3 c =
     let a = c .before .before .before .before .before .before .before .before .before .before .args in
@@ -37,8 +29,9 @@ returns-4 c =
     (rw (c .enum-told .given .1))
 
 pub record-in-spec : {M : Type 1} → statement M
+unfolding recordIn
 record-in-spec =
     tie.close
     (tie.spec
-    returns returns-2 (λ c κs. search needs) (λ c κs. search needs) (λ c κs. search needs) (λ c. search needs) (λ c κs. search needs)
-    (λ c. search needs) returns-3 returns-4)
+    (λ c. search tests) (λ c. search tests) (λ c κs. search needs) (λ c κs. search needs) (λ c κs. search needs) (λ c. search needs)
+    (λ c κs. search needs) (λ c. search needs) returns-3 returns-4)

@@ -25,7 +25,4 @@ returns-3 c =
     (sym (c .before .permitted-answer .ensures) ∙ c .if2 .left)
 
 pub on-record-spec : {M : Type 1} → statement M
-on-record-spec =
-    tie.close
-    (tie.spec
-    (λ c κs. search needs) returns (λ c κs. search needs) (λ c κs. search needs) returns-2 returns-3)
+on-record-spec = tie.close (tie.spec (λ c κs. search needs) returns (λ c κs. search needs) (λ c κs. search needs) returns-2 returns-3)

@@ -11,5 +11,4 @@ returns-2 : tie.Need-returns-2
 returns-2 c = polls-with-t (c .before .before .before .args .line) _ (c .before .before .line-of .ensures) (c .if1 .left)
 
 pub poll-of-spec : {M : Type 1} → statement M
-poll-of-spec =
-    tie.close (tie.spec (λ c κs. search needs) (λ c κs. search needs) (λ c. search needs) (λ c. search needs) returns returns-2)
+poll-of-spec = tie.close (tie.spec (λ c κs. search needs) (λ c κs. search needs) (λ c. search needs) (λ c. search needs) returns returns-2)

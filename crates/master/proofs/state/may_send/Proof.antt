@@ -19,6 +19,4 @@ returns-2 c =
     other-type (a .line) (a .rec) (type-of .result) (type-of .ensures) (sym (c .before .by-master .ensures) ∙ c .if1 .left)
 
 pub may-send-spec : {M : Type 1} → statement M
-may-send-spec =
-    tie.close
-    (tie.spec (λ c κs. search needs) (λ c κs. search needs) (λ c κs. search needs) returns returns-2)
+may-send-spec = tie.close (tie.spec (λ c κs. search needs) (λ c κs. search needs) (λ c κs. search needs) returns returns-2)

@@ -4,9 +4,6 @@ use borrow.Author.Needs.{needs}
 use Rattle.master.proofs.times.reduces.Statement.{statement}
 use Rattle.master.proofs.times.reduces.Tie as tie
 
-returns : tie.Need-returns
-unfolding reduces
-returns c = rw (← (c .before .line-of .ensures))
-
 pub reduces-spec : {M : Type 1} → statement M
-reduces-spec = tie.close (tie.spec (λ c κs. search needs) returns)
+unfolding reduces
+reduces-spec = tie.close (tie.spec (λ c κs. search needs) (λ c. rw (← (c .before .line-of .ensures))))

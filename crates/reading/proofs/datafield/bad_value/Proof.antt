@@ -24,34 +24,10 @@ Inv-loop line kind field letters lens count at₀ j₀ at j =
 abbrev μ-loop : tie.MeasureT-loop
 μ-loop line kind field letters lens count at₀ j₀ at j = count - j
 
-count-of-requires : tie.Need-count-of-requires Inv-loop μ-loop
-count-of-requires c κs = search needs
-
 loop-holds : tie.Need-loop-holds Inv-loop μ-loop
 loop-holds c =
     let z : c .count-of .result - 0 ≡ c .count-of .result = omega arith in
     (omega (arith, c .count-of .ensures, count-small (c .before .before .before .before .args .form)), omega arith, omega arith, rw z)
-
-array-read-wide : tie.Need-array-read-wide Inv-loop μ-loop
-array-read-wide c = search needs
-
-wide-requires : tie.Need-wide-requires Inv-loop μ-loop
-wide-requires c κs = search needs
-
-array-read-permits-text : tie.Need-array-read-permits-text Inv-loop μ-loop
-array-read-permits-text c = search needs
-
-add-part : tie.Need-add-part Inv-loop μ-loop
-add-part c = omega arith
-
-part-requires : tie.Need-part-requires Inv-loop μ-loop
-part-requires c κs = search needs
-
-permits-text-requires : tie.Need-permits-text-requires Inv-loop μ-loop
-permits-text-requires c κs = search needs
-
-add-t20 : tie.Need-add-t20 Inv-loop μ-loop
-add-t20 c = omega arith
 
 returns : tie.Need-returns Inv-loop μ-loop
 unfolding slotsOf
@@ -69,18 +45,6 @@ returns c =
     ∙ ap (λ (x : List ℕ). permitted (a .line) (a .kind) (getD (a .form .letters) (loop .j) 0) x) (c .before .before .part .ensures))
     ∙ not-true _ (c .if1 .taken)))
     ∙ loop .inv .3 ∙ rw (count-of .ensures)
-
-add-at : tie.Need-add-at Inv-loop μ-loop
-add-at c = omega arith
-
-add-at-2 : tie.Need-add-at-2 Inv-loop μ-loop
-add-at-2 c = omega arith
-
-add-j : tie.Need-add-j Inv-loop μ-loop
-add-j c = search needs
-
-loop-less : tie.Need-loop-less Inv-loop μ-loop
-loop-less c = search needs
 
 loop-again : tie.Need-loop-again Inv-loop μ-loop
 loop-again c =
@@ -117,5 +81,6 @@ pub bad-value-spec : {M : Type 1} → statement M
 bad-value-spec =
     tie.close
     (tie.spec
-    Inv-loop μ-loop count-of-requires loop-holds array-read-wide wide-requires array-read-permits-text add-part part-requires permits-text-requires
-    add-t20 returns add-at add-at-2 add-j loop-less loop-again returns-2)
+    Inv-loop μ-loop (λ c κs. search needs) loop-holds (λ c. search needs) (λ c κs. search needs) (λ c. search needs) (λ c. omega arith)
+    (λ c κs. search needs) (λ c κs. search needs) (λ c. omega arith) returns (λ c. omega arith) (λ c. omega arith) (λ c. search needs)
+    (λ c. search needs) loop-again returns-2)

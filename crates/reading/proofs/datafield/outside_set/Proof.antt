@@ -18,28 +18,10 @@ Inv-loop field i₀ i = (i ≤ length field) × (outside (5 + i) (drop i field) 
 abbrev μ-loop : tie.MeasureT-loop
 μ-loop field i₀ i = length field - i
 
-loop-holds : tie.Need-loop-holds Inv-loop μ-loop
-loop-holds c = (omega arith, refl)
-
-shared-slice-read-in-set : tie.Need-shared-slice-read-in-set Inv-loop μ-loop
-shared-slice-read-in-set c = search needs
-
-in-set-requires : tie.Need-in-set-requires Inv-loop μ-loop
-in-set-requires c κs = search needs
-
-add-t8 : tie.Need-add-t8 Inv-loop μ-loop
-add-t8 c = search needs
-
 returns : tie.Need-returns Inv-loop μ-loop
 returns c =
     let l = c .before .before .before .before .loop in let s = now (c .before .before .before .before .before .before .args .field) in
     sym (byte-out s (l .i) (c .before .before .before .loop-test .taken) (sym (c .before .in-set .ensures) ∙ not-true _ (c .if1 .taken))) ∙ l .inv .1
-
-add-i : tie.Need-add-i Inv-loop μ-loop
-add-i c = search needs
-
-loop-less : tie.Need-loop-less Inv-loop μ-loop
-loop-less c = search needs
 
 loop-again : tie.Need-loop-again Inv-loop μ-loop
 loop-again c =
@@ -56,4 +38,5 @@ pub outside-set-spec : {M : Type 1} → statement M
 outside-set-spec =
     tie.close
     (tie.spec
-    Inv-loop μ-loop loop-holds shared-slice-read-in-set in-set-requires add-t8 returns add-i loop-less loop-again returns-2)
+    Inv-loop μ-loop (λ c. (omega arith, refl)) (λ c. search needs) (λ c κs. search needs) (λ c. search needs) returns (λ c. search needs)
+    (λ c. search needs) loop-again returns-2)

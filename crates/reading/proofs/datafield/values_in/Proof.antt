@@ -24,49 +24,10 @@ Inv-loop field letters lens count values₀ at₀ j₀ values at j =
 abbrev μ-loop : tie.MeasureT-loop
 μ-loop field letters lens count values₀ at₀ j₀ values at j = count - j
 
-count-of-requires : tie.Need-count-of-requires Inv-loop μ-loop
-count-of-requires c κs = search needs
-
 loop-holds : tie.Need-loop-holds Inv-loop μ-loop
 loop-holds c =
     let z : c .count-of .result - 0 ≡ c .count-of .result = omega arith in
     (omega (arith, c .count-of .ensures, count-small (c .before .before .before .before .args .form)), omega arith, omega arith, refl, refl, rw z)
-
-array-read-wide : tie.Need-array-read-wide Inv-loop μ-loop
-array-read-wide c = search needs
-
-wide-requires : tie.Need-wide-requires Inv-loop μ-loop
-wide-requires c κs = search needs
-
-array-read-value-of : tie.Need-array-read-value-of Inv-loop μ-loop
-array-read-value-of c = search needs
-
-add-part : tie.Need-add-part Inv-loop μ-loop
-add-part c = omega arith
-
-part-requires : tie.Need-part-requires Inv-loop μ-loop
-part-requires c κs = search needs
-
-value-of-requires : tie.Need-value-of-requires Inv-loop μ-loop
-value-of-requires c κs = search needs
-
-mul-values : tie.Need-mul-values Inv-loop μ-loop
-mul-values c = search needs
-
-array-write-values : tie.Need-array-write-values Inv-loop μ-loop
-array-write-values c = omega arith
-
-add-at : tie.Need-add-at Inv-loop μ-loop
-add-at c = omega arith
-
-add-at-2 : tie.Need-add-at-2 Inv-loop μ-loop
-add-at-2 c = omega arith
-
-add-j : tie.Need-add-j Inv-loop μ-loop
-add-j c = search needs
-
-loop-less : tie.Need-loop-less Inv-loop μ-loop
-loop-less c = search needs
 
 loop-again : tie.Need-loop-again Inv-loop μ-loop
 loop-again c =
@@ -101,5 +62,6 @@ pub values-in-spec : {M : Type 1} → statement M
 values-in-spec =
     tie.close
     (tie.spec
-    Inv-loop μ-loop count-of-requires loop-holds array-read-wide wide-requires array-read-value-of add-part part-requires value-of-requires mul-values
-    array-write-values add-at add-at-2 add-j loop-less loop-again returns)
+    Inv-loop μ-loop (λ c κs. search needs) loop-holds (λ c. search needs) (λ c κs. search needs) (λ c. search needs) (λ c. omega arith)
+    (λ c κs. search needs) (λ c κs. search needs) (λ c. search needs) (λ c. omega arith) (λ c. omega arith) (λ c. omega arith) (λ c. search needs)
+    (λ c. search needs) loop-again returns)

@@ -9,9 +9,9 @@ returns : tie.Need-returns
 unfolding misshapen
 returns c = rw (← (c .before .before .width-of .ensures .0), eq-eqb _ _ (c .before .if1 .taken)) (c .wrong-letter .ensures)
 
-returns-2 : tie.Need-returns-2
-unfolding misshapen
-returns-2 c = rw (← (c .before .width-of .ensures .0), ne-eqb _ _ (c .if1 .left))
-
 pub wrong-form-spec : {M : Type 1} → statement M
-wrong-form-spec = tie.close (tie.spec (λ c κs. search needs) (λ c κs. search needs) returns returns-2)
+unfolding misshapen
+wrong-form-spec =
+    tie.close
+    (tie.spec
+    (λ c κs. search needs) (λ c κs. search needs) returns (λ c. rw (← (c .before .width-of .ensures .0), ne-eqb _ _ (c .if1 .left))))

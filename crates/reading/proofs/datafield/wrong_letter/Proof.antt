@@ -21,22 +21,10 @@ Inv-loop field letters lens count at₀ j₀ at j =
 abbrev μ-loop : tie.MeasureT-loop
 μ-loop field letters lens count at₀ j₀ at j = count - j
 
-count-of-requires : tie.Need-count-of-requires Inv-loop μ-loop
-count-of-requires c κs = search needs
-
 loop-holds : tie.Need-loop-holds Inv-loop μ-loop
 loop-holds c =
     let z : c .count-of .result - 0 ≡ c .count-of .result = omega arith in
     (omega (arith, c .count-of .ensures, count-small (c .before .before .before .before .args .form)), omega arith, omega arith, rw z)
-
-byte-at-requires : tie.Need-byte-at-requires Inv-loop μ-loop
-byte-at-requires c κs = search needs
-
-array-read-if1 : tie.Need-array-read-if1 Inv-loop μ-loop
-array-read-if1 c = search needs
-
-add-t13 : tie.Need-add-t13 Inv-loop μ-loop
-add-t13 c = omega arith
 
 returns : tie.Need-returns Inv-loop μ-loop
 unfolding slotsOf
@@ -48,24 +36,6 @@ returns c =
     (letter-wrong (a .form .letters) (a .form .lens) (now (a .field)) (count-of .result) (loop .j) (loop .at) (c .before .before .loop-test .taken)
     (λ e. c .if1 .taken (c .before .byte-at .ensures ∙ e)))
     ∙ loop .inv .3 ∙ rw (count-of .ensures)
-
-array-read-wide : tie.Need-array-read-wide Inv-loop μ-loop
-array-read-wide c = search needs
-
-wide-requires : tie.Need-wide-requires Inv-loop μ-loop
-wide-requires c κs = search needs
-
-add-at : tie.Need-add-at Inv-loop μ-loop
-add-at c = omega arith
-
-add-at-2 : tie.Need-add-at-2 Inv-loop μ-loop
-add-at-2 c = omega arith
-
-add-j : tie.Need-add-j Inv-loop μ-loop
-add-j c = search needs
-
-loop-less : tie.Need-loop-less Inv-loop μ-loop
-loop-less c = search needs
 
 loop-again : tie.Need-loop-again Inv-loop μ-loop
 loop-again c =
@@ -97,5 +67,5 @@ pub wrong-letter-spec : {M : Type 1} → statement M
 wrong-letter-spec =
     tie.close
     (tie.spec
-    Inv-loop μ-loop count-of-requires loop-holds byte-at-requires array-read-if1 add-t13 returns array-read-wide wide-requires add-at add-at-2 add-j
-    loop-less loop-again returns-2)
+    Inv-loop μ-loop (λ c κs. search needs) loop-holds (λ c κs. search needs) (λ c. search needs) (λ c. omega arith) returns (λ c. search needs)
+    (λ c κs. search needs) (λ c. omega arith) (λ c. omega arith) (λ c. search needs) (λ c. search needs) loop-again returns-2)

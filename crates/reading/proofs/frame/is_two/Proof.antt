@@ -9,4 +9,6 @@ returns c = rw (← (c .before .before .byte-at .ensures), eq-eqb _ _ (c .before
 
 pub is-two-spec : {M : Type 1} → statement M
 is-two-spec =
-    tie.close (tie.spec (λ c κs. search needs) (λ c. search needs) (λ c κs. search needs) returns (λ c. rw (← (c .before .byte-at .ensures), ne-eqb _ _ (c .if1 .left))))
+    tie.close
+    (tie.spec
+    (λ c κs. search needs) (λ c. search needs) (λ c κs. search needs) returns (λ c. rw (← (c .before .byte-at .ensures), ne-eqb _ _ (c .if1 .left))))

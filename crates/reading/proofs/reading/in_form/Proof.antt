@@ -4,10 +4,6 @@ use borrow.Author.Needs.{needs}
 use Rattle.reading.proofs.reading.in_form.Statement.{statement}
 use Rattle.reading.proofs.reading.in_form.Tie as tie
 
-returns : tie.Need-returns
-unfolding inForm
-returns c = rw (← (c .before .before .before .wrong-form .ensures), c .before .wrong .given .1)
-
 returns-2 : tie.Need-returns-2
 unfolding inForm
 returns-2 c =
@@ -28,8 +24,10 @@ returns-3 c =
     )
 
 pub in-form-spec : {M : Type 1} → statement M
+unfolding inForm
 in-form-spec =
     tie.close
     (tie.spec
-    (λ c κs. search needs) (λ c. search needs) returns (λ c. search needs) (λ c κs. search needs) (λ c. search needs) returns-2 (λ c. search needs)
-    (λ c κs. search needs) (λ c κs. search needs) returns-3)
+    (λ c κs. search needs) (λ c. search needs) (λ c. rw (← (c .before .before .before .wrong-form .ensures), c .before .wrong .given .1))
+    (λ c. search needs) (λ c κs. search needs) (λ c. search needs) returns-2 (λ c. search needs) (λ c κs. search needs) (λ c κs. search needs)
+    returns-3)

@@ -13,18 +13,6 @@ Inv-loop decimal w n m₀ i₀ m i = leftOf decimal i m ≡ leftOf decimal w n
 abbrev μ-loop : tie.MeasureT-loop
 μ-loop decimal w n m₀ i₀ m i = i
 
-loop-holds : tie.Need-loop-holds Inv-loop μ-loop
-loop-holds c = refl
-
-sub-i : tie.Need-sub-i Inv-loop μ-loop
-sub-i c = omega arith
-
-quotient-requires : tie.Need-quotient-requires Inv-loop μ-loop
-quotient-requires c κs = search needs
-
-loop-less : tie.Need-loop-less Inv-loop μ-loop
-loop-less c = omega arith
-
 loop-again : tie.Need-loop-again Inv-loop μ-loop
 loop-again c =
     let l = c .before .before .loop in
@@ -37,6 +25,4 @@ returns c =
     rw h at (c .before .loop .inv)
 
 pub left-of-spec : {M : Type 1} → statement M
-left-of-spec =
-    tie.close
-    (tie.spec Inv-loop μ-loop loop-holds sub-i quotient-requires loop-less loop-again returns)
+left-of-spec = tie.close (tie.spec Inv-loop μ-loop (λ c. refl) (λ c. omega arith) (λ c κs. search needs) (λ c. omega arith) loop-again returns)

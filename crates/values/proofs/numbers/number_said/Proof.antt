@@ -17,23 +17,11 @@ Inv-loop decimal text a₀ i₀ a i = (i ≤ length text) × (a < base decimal ^
 abbrev μ-loop : tie.MeasureT-loop
 μ-loop decimal text a₀ i₀ a i = length text - i
 
-loop-holds : tie.Need-loop-holds Inv-loop μ-loop
-loop-holds c = (omega arith, no-digit (c .before .args .decimal), refl)
-
-shared-slice-read-with-digit : tie.Need-shared-slice-read-with-digit Inv-loop μ-loop
-shared-slice-read-with-digit c = search needs
-
 with-digit-requires : tie.Need-with-digit-requires Inv-loop μ-loop
 with-digit-requires c κs =
     let s = c .before .before .before .before in let a = s .args in
     let p = few (a .decimal) (length (now (a .text))) (c .before .before .loop .i) (s .pre .0) (s .pre .1) (c .before .loop-test .taken) in
     omega (arith, c .before .before .loop .inv .1)
-
-add-i : tie.Need-add-i Inv-loop μ-loop
-add-i c = search needs
-
-loop-less : tie.Need-loop-less Inv-loop μ-loop
-loop-less c = search needs
 
 loop-again : tie.Need-loop-again Inv-loop μ-loop
 loop-again c =
@@ -52,4 +40,5 @@ pub number-said-spec : {M : Type 1} → statement M
 number-said-spec =
     tie.close
     (tie.spec
-    Inv-loop μ-loop loop-holds shared-slice-read-with-digit with-digit-requires add-i loop-less loop-again returns)
+    Inv-loop μ-loop (λ c. (omega arith, no-digit (c .before .args .decimal), refl)) (λ c. search needs) with-digit-requires (λ c. search needs)
+    (λ c. search needs) loop-again returns)

@@ -16,33 +16,12 @@ Inv-loop part₀ decimal n m₀ i₀ part m i = (i ≤ length part₀) × (lengt
 abbrev μ-loop : tie.MeasureT-loop
 μ-loop part₀ decimal n m₀ i₀ part m i = i
 
-loop-holds : tie.Need-loop-holds Inv-loop μ-loop
-loop-holds c = (omega arith, refl, rw drop-length)
-
-sub-i : tie.Need-sub-i Inv-loop μ-loop
-sub-i c = omega arith
-
-low-digit-requires : tie.Need-low-digit-requires Inv-loop μ-loop
-low-digit-requires c κs = search needs
-
-slice-write-part : tie.Need-slice-write-part Inv-loop μ-loop
-slice-write-part c = omega arith
-
-quotient-requires : tie.Need-quotient-requires Inv-loop μ-loop
-quotient-requires c κs = search needs
-
-loop-less : tie.Need-loop-less Inv-loop μ-loop
-loop-less c = omega arith
-
 loop-again : tie.Need-loop-again Inv-loop μ-loop
 loop-again c =
     let l = c .before .before .before .loop in
     let d = c .before .before .before .before .before .args .decimal in
     let g = digit-step d (l .m) _ (c .quotient .ensures) (l .part) (l .i) _ (c .before .before .loop-test .taken) (omega arith) (c .before .low-digit .ensures) in
     (omega arith, simp length-set (l .inv .1), g ∙ l .inv .2)
-
-same-length : tie.Need-same-length Inv-loop μ-loop
-same-length c = c .before .loop .inv .1
 
 returns : tie.Need-returns Inv-loop μ-loop
 unfolding numeralOn
@@ -54,4 +33,5 @@ pub put-numeral-spec : {M : Type 1} → statement M
 put-numeral-spec =
     tie.close
     (tie.spec
-    Inv-loop μ-loop loop-holds sub-i low-digit-requires slice-write-part quotient-requires loop-less loop-again same-length returns)
+    Inv-loop μ-loop (λ c. (omega arith, refl, rw drop-length)) (λ c. omega arith) (λ c κs. search needs) (λ c. omega arith) (λ c κs. search needs)
+    (λ c. omega arith) loop-again (λ c. c .before .loop .inv .1) returns)

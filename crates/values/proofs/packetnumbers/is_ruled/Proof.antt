@@ -4,9 +4,6 @@ use Rattle.values.specs.PacketNumbers.{ruled}
 use Rattle.values.proofs.packetnumbers.is_ruled.Statement.{statement}
 use Rattle.values.proofs.packetnumbers.is_ruled.Tie as tie
 
-returns : tie.Need-returns
-unfolding ruled
-returns c = refl
-
 pub is-ruled-spec : {M : Type 1} → statement M
-is-ruled-spec = tie.close (tie.spec returns)
+unfolding ruled
+is-ruled-spec = tie.close (tie.spec (λ c. refl))

@@ -6,8 +6,9 @@ use mathlib.Core.List.{[], _∷_}
 use Rattle.values.proofs.packets.in_effect.Statement.{statement}
 use Rattle.values.proofs.packets.in_effect.Tie as tie
 
-returns-2 : tie.Need-returns-2
-returns-2 c = sym (missed-all (codes "16F" ∷ []) (c .before .args .b) (c .match .rest) (codes "F16") refl)
-
 pub in-effect-spec : {M : Type 1} → statement M
-in-effect-spec = tie.close (tie.spec (λ c. sym (hit-any (codes "F16") (codes "16F") (c .before .args .b) (c .match .keys1) refl)) returns-2)
+in-effect-spec =
+    tie.close
+    (tie.spec
+    (λ c. sym (hit-any (codes "F16") (codes "16F") (c .before .args .b) (c .match .keys1) refl))
+    (λ c. sym (missed-all (codes "16F" ∷ []) (c .before .args .b) (c .match .rest) (codes "F16") refl)))

@@ -5,17 +5,11 @@ use borrow.Author.Needs.{needs}
 use Rattle.values.proofs.values.is_narrow.Statement.{statement}
 use Rattle.values.proofs.values.is_narrow.Tie as tie
 
-returns : tie.Need-returns
-unfolding narrow
-returns c = rw (lt-leb _ _ (c .if1 .taken))
-
-returns-2 : tie.Need-returns-2
-unfolding narrow
-returns-2 c = rw (← (c .before .is-decimal .ensures), le-leb _ _ (c .before .before .if1 .left), c .if2 .taken)
-
-returns-3 : tie.Need-returns-3
-unfolding narrow
-returns-3 c = rw (← (c .before .is-decimal .ensures), le-leb _ _ (c .before .before .if1 .left), c .if2 .left)
-
 pub is-narrow-spec : {M : Type 1} → statement M
-is-narrow-spec = tie.close (tie.spec returns (λ c κs. search needs) returns-2 returns-3)
+unfolding narrow
+is-narrow-spec =
+    tie.close
+    (tie.spec
+    (λ c. rw (lt-leb _ _ (c .if1 .taken))) (λ c κs. search needs)
+    (λ c. rw (← (c .before .is-decimal .ensures), le-leb _ _ (c .before .before .if1 .left), c .if2 .taken))
+    (λ c. rw (← (c .before .is-decimal .ensures), le-leb _ _ (c .before .before .if1 .left), c .if2 .left)))

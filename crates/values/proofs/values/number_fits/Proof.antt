@@ -5,10 +5,6 @@ use borrow.Author.Needs.{needs}
 use Rattle.values.proofs.values.number_fits.Statement.{statement}
 use Rattle.values.proofs.values.number_fits.Tie as tie
 
-returns : tie.Need-returns
-unfolding numberFits
-returns c = rw (← (c .before .is-ruled .ensures), not-true (c .before .is-ruled .result) (c .if1 .taken))
-
 returns-2 : tie.Need-returns-2
 unfolding numberFits
 returns-2 c =
@@ -22,7 +18,9 @@ returns-3 c =
     rw (← (d .is-ruled .ensures), not-false (d .is-ruled .result) (c .before .before .if1 .left), ← (c .before .is-narrow .ensures), c .if2 .left)
 
 pub number-fits-spec : {M : Type 1} → statement M
+unfolding numberFits
 number-fits-spec =
     tie.close
     (tie.spec
-    (λ c κs. search needs) returns (λ c κs. search needs) (λ c κs. search needs) returns-2 returns-3)
+    (λ c κs. search needs) (λ c. rw (← (c .before .is-ruled .ensures), not-true (c .before .is-ruled .result) (c .if1 .taken))) (λ c κs. search needs)
+    (λ c κs. search needs) returns-2 returns-3)

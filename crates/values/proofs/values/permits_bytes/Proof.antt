@@ -18,26 +18,11 @@ Inv-loop line kind letter text at₀ at = (at ≤ length text) × (permittedFrom
 abbrev μ-loop : tie.MeasureT-loop
 μ-loop line kind letter text at₀ at = length text - at
 
-loop-holds : tie.Need-loop-holds Inv-loop μ-loop
-loop-holds c = (omega arith, refl)
-
-shared-slice-read-permits-byte : tie.Need-shared-slice-read-permits-byte Inv-loop μ-loop
-shared-slice-read-permits-byte c = search needs
-
-permits-byte-requires : tie.Need-permits-byte-requires Inv-loop μ-loop
-permits-byte-requires c κs = search needs
-
 returns : tie.Need-returns Inv-loop μ-loop
 returns c =
     let a = c .before .before .before .before .before .before .args in let l = c .before .before .before .before .loop in
     sym (byte-bad (a .line) (a .kind) (a .letter) (l .at) (now (a .text)) (c .before .before .before .loop-test .taken) (sym (c .before .permits-byte .ensures) ∙ not-true _ (c .if1 .taken)))
     ∙ l .inv .1
-
-add-at : tie.Need-add-at Inv-loop μ-loop
-add-at c = search needs
-
-loop-less : tie.Need-loop-less Inv-loop μ-loop
-loop-less c = search needs
 
 loop-again : tie.Need-loop-again Inv-loop μ-loop
 loop-again c =
@@ -55,4 +40,5 @@ pub permits-bytes-spec : {M : Type 1} → statement M
 permits-bytes-spec =
     tie.close
     (tie.spec
-    Inv-loop μ-loop loop-holds shared-slice-read-permits-byte permits-byte-requires returns add-at loop-less loop-again returns-2)
+    Inv-loop μ-loop (λ c. (omega arith, refl)) (λ c. search needs) (λ c κs. search needs) returns (λ c. search needs) (λ c. search needs) loop-again
+    returns-2)

@@ -16,24 +16,6 @@ Inv-loop line kind letter from w n decimal m₀ i₀ m i = (i ≤ w) × (permitt
 abbrev μ-loop : tie.MeasureT-loop
 μ-loop line kind letter from w n decimal m₀ i₀ m i = i
 
-is-decimal-requires : tie.Need-is-decimal-requires Inv-loop μ-loop
-is-decimal-requires c κs = search needs
-
-loop-holds : tie.Need-loop-holds Inv-loop μ-loop
-loop-holds c = (omega arith, refl)
-
-sub-i : tie.Need-sub-i Inv-loop μ-loop
-sub-i c = omega arith
-
-add-permits-byte : tie.Need-add-permits-byte Inv-loop μ-loop
-add-permits-byte c = omega (arith, c .before .before .before .pre .0, c .before .before .before .pre .1)
-
-low-digit-requires : tie.Need-low-digit-requires Inv-loop μ-loop
-low-digit-requires c κs = search needs
-
-permits-byte-requires : tie.Need-permits-byte-requires Inv-loop μ-loop
-permits-byte-requires c κs = search needs
-
 returns : tie.Need-returns Inv-loop μ-loop
 returns c =
     let s = c .before .before .before .before .before in let a = s .before .args in let l = c .before .before .before .before .loop in
@@ -41,12 +23,6 @@ returns c =
     let g = sym (c .before .permits-byte .ensures) ∙ not-true _ (c .if1 .taken) in
     sym (last-bad (a .line) (a .kind) (a .letter) (a .from) (s .is-decimal .result) (l .i) (l .m) _ (c .before .before .before .loop-test .taken) (x .ensures) g)
     ∙ l .inv .1 ∙ rw (s .is-decimal .ensures)
-
-quotient-requires : tie.Need-quotient-requires Inv-loop μ-loop
-quotient-requires c κs = search needs
-
-loop-less : tie.Need-loop-less Inv-loop μ-loop
-loop-less c = omega arith
 
 loop-again : tie.Need-loop-again Inv-loop μ-loop
 loop-again c =
@@ -66,5 +42,6 @@ pub permits-digits-spec : {M : Type 1} → statement M
 permits-digits-spec =
     tie.close
     (tie.spec
-    Inv-loop μ-loop is-decimal-requires loop-holds sub-i add-permits-byte low-digit-requires permits-byte-requires returns quotient-requires loop-less
-    loop-again returns-2)
+    Inv-loop μ-loop (λ c κs. search needs) (λ c. (omega arith, refl)) (λ c. omega arith)
+    (λ c. omega (arith, c .before .before .before .pre .0, c .before .before .before .pre .1)) (λ c κs. search needs) (λ c κs. search needs) returns
+    (λ c κs. search needs) (λ c. omega arith) loop-again returns-2)

@@ -21,28 +21,10 @@ Inv-loop line kind values letters lens count j₀ j =
 abbrev μ-loop : tie.MeasureT-loop
 μ-loop line kind values letters lens count j₀ j = count - j
 
-count-of-requires : tie.Need-count-of-requires Inv-loop μ-loop
-count-of-requires c κs = search needs
-
 loop-holds : tie.Need-loop-holds Inv-loop μ-loop
 loop-holds c =
     let z : c .count-of .result - 0 ≡ c .count-of .result = omega arith in
     (omega (arith, c .count-of .ensures, count-small (c .before .before .before .args .form)), omega arith, rw z)
-
-array-read-permits-value : tie.Need-array-read-permits-value Inv-loop μ-loop
-array-read-permits-value c = search needs
-
-array-read-permits-value-2 : tie.Need-array-read-permits-value-2 Inv-loop μ-loop
-array-read-permits-value-2 c = search needs
-
-mul-permits-value : tie.Need-mul-permits-value Inv-loop μ-loop
-mul-permits-value c = search needs
-
-array-read-permits-value-3 : tie.Need-array-read-permits-value-3 Inv-loop μ-loop
-array-read-permits-value-3 c = search needs
-
-permits-value-requires : tie.Need-permits-value-requires Inv-loop μ-loop
-permits-value-requires c κs = search needs
 
 returns : tie.Need-returns Inv-loop μ-loop
 unfolding slotsOf
@@ -51,12 +33,6 @@ returns c =
     let g = sym (c .before .permits-value .ensures) ∙ not-true _ (c .if1 .taken) in
     sym (value-bad (a .line) (a .kind) (a .form .letters) (a .form .lens) (a .t4) n (l .j) (c .before .before .loop-test .taken) g) ∙ l .inv .2
     ∙ rw (c .before .before .before .before .count-of .ensures)
-
-add-j : tie.Need-add-j Inv-loop μ-loop
-add-j c = search needs
-
-loop-less : tie.Need-loop-less Inv-loop μ-loop
-loop-less c = search needs
 
 loop-again : tie.Need-loop-again Inv-loop μ-loop
 loop-again c =
@@ -80,5 +56,5 @@ pub permits-values-spec : {M : Type 1} → statement M
 permits-values-spec =
     tie.close
     (tie.spec
-    Inv-loop μ-loop count-of-requires loop-holds array-read-permits-value array-read-permits-value-2 mul-permits-value array-read-permits-value-3
-    permits-value-requires returns add-j loop-less loop-again returns-2)
+    Inv-loop μ-loop (λ c κs. search needs) loop-holds (λ c. search needs) (λ c. search needs) (λ c. search needs) (λ c. search needs)
+    (λ c κs. search needs) returns (λ c. search needs) (λ c. search needs) loop-again returns-2)

@@ -14,10 +14,6 @@ use borrow.Author.Needs.{needs}
 use Rattle.values.proofs.values.value_of.Statement.{statement}
 use Rattle.values.proofs.values.value_of.Tie as tie
 
-returns : tie.Need-returns
-unfolding valueOf
-returns c = rw (← (c .before .is-narrow .ensures), not-true (c .before .is-narrow .result) (c .if1 .taken))
-
 number-said-requires : tie.Need-number-said-requires
 number-said-requires c κs =
     let b = c .before .before .before in
@@ -48,8 +44,10 @@ returns-3 c =
     c .number-said2 .ensures ∙ rw (t, ← (c .before .before .before .before .lead-of .ensures), ne-eqb _ _ (c .before .before .before .if2 .left), c .before .before .is-decimal2 .ensures, p)
 
 pub value-of-spec : {M : Type 1} → statement M
+unfolding valueOf
 value-of-spec =
     tie.close
     (tie.spec
-    (λ c κs. search needs) returns (λ c κs. search needs) (λ c κs. search needs) number-said-requires returns-2 (λ c κs. search needs)
-    (λ c κs. search needs) number-said-requires-2 returns-3)
+    (λ c κs. search needs) (λ c. rw (← (c .before .is-narrow .ensures), not-true (c .before .is-narrow .result) (c .if1 .taken)))
+    (λ c κs. search needs) (λ c κs. search needs) number-said-requires returns-2 (λ c κs. search needs) (λ c κs. search needs) number-said-requires-2
+    returns-3)

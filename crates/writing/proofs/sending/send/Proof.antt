@@ -9,12 +9,10 @@ returns : tie.Need-returns
 unfolding sendOf
 returns c = put _ _ _ (c .before .before .before .before .before .write .ensures) _ (c .before .writing .given .1)
 
-returns-2 : tie.Need-returns-2
-unfolding sendOf
-returns-2 c = put-none _ _ _ (c .before .before .before .before .write .ensures) _ (c .enum-told .given .1)
-
 pub send-spec : {M : Type 1} → statement M
+unfolding sendOf
 send-spec =
     tie.close
     (tie.spec
-    (λ c κs. search needs) (λ c. search needs) (λ c. search needs) (λ c. search needs) returns (λ c. search needs) returns-2)
+    (λ c κs. search needs) (λ c. search needs) (λ c. search needs) (λ c. search needs) returns (λ c. search needs)
+    (λ c. put-none _ _ _ (c .before .before .before .before .write .ensures) _ (c .enum-told .given .1)))

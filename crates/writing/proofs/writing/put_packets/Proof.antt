@@ -22,9 +22,6 @@ Inv-loop field₀ values letters lens count at₀ j₀ field at j =
 abbrev μ-loop : tie.MeasureT-loop
 μ-loop field₀ values letters lens count at₀ j₀ field at j = count - j
 
-count-of-requires : tie.Need-count-of-requires Inv-loop μ-loop
-count-of-requires c κs = search needs
-
 loop-holds : tie.Need-loop-holds Inv-loop μ-loop
 unfolding widthOf slotsOf
 loop-holds c =
@@ -32,12 +29,6 @@ loop-holds c =
     let pre = c .before .before .before .before .pre in
     let z : c .count-of .result - 0 ≡ c .count-of .result = omega arith in
     (omega (arith, c .count-of .ensures, count-small (a .form)), omega arith, refl, rw (z, zero-add, c .count-of .ensures) (sym pre), rw z)
-
-array-read-wide : tie.Need-array-read-wide Inv-loop μ-loop
-array-read-wide c = search needs
-
-wide-requires : tie.Need-wide-requires Inv-loop μ-loop
-wide-requires c κs = search needs
 
 add-end : tie.Need-add-end Inv-loop μ-loop
 add-end c =
@@ -59,12 +50,6 @@ add-end-2 c =
       c .wide .ensures .0,
     )
 
-sub-put-packet : tie.Need-sub-put-packet Inv-loop μ-loop
-sub-put-packet c = omega arith
-
-part-put-packet-start : tie.Need-part-put-packet-start Inv-loop μ-loop
-part-put-packet-start c = omega arith
-
 part-put-packet-end : tie.Need-part-put-packet-end Inv-loop μ-loop
 part-put-packet-end c =
     let a = c .before .before .before .before .before .before .before .args in
@@ -74,24 +59,6 @@ part-put-packet-end c =
       width-here (a .form .letters) (a .form .lens) (count-of .result) (c .before .before .loop .j) (c .before .loop-test .taken),
       c .wide .ensures .0,
     )
-
-array-read-put-packet : tie.Need-array-read-put-packet Inv-loop μ-loop
-array-read-put-packet c = search needs
-
-mul-put-packet : tie.Need-mul-put-packet Inv-loop μ-loop
-mul-put-packet c = search needs
-
-array-read-put-packet-2 : tie.Need-array-read-put-packet-2 Inv-loop μ-loop
-array-read-put-packet-2 c = search needs
-
-put-packet-requires : tie.Need-put-packet-requires Inv-loop μ-loop
-put-packet-requires c κs = search needs
-
-add-j : tie.Need-add-j Inv-loop μ-loop
-add-j c = search needs
-
-loop-less : tie.Need-loop-less Inv-loop μ-loop
-loop-less c = search needs
 
 loop-again : tie.Need-loop-again Inv-loop μ-loop
 loop-again c =
@@ -111,9 +78,6 @@ loop-again c =
           (omega (arith, w .ensures .0)) (put-packet .kept .0) (put-packet .ensures) (l .inv .4),
     )
 
-same-length : tie.Need-same-length Inv-loop μ-loop
-same-length c = c .before .loop .inv .2
-
 returns : tie.Need-returns Inv-loop μ-loop
 unfolding slotsOf dataOf widthIn
 returns c =
@@ -131,6 +95,6 @@ pub put-packets-spec : {M : Type 1} → statement M
 put-packets-spec =
     tie.close
     (tie.spec
-    Inv-loop μ-loop count-of-requires loop-holds array-read-wide wide-requires add-end add-end-2 sub-put-packet part-put-packet-start
-    part-put-packet-end array-read-put-packet mul-put-packet array-read-put-packet-2 put-packet-requires add-j loop-less loop-again same-length
-    returns)
+    Inv-loop μ-loop (λ c κs. search needs) loop-holds (λ c. search needs) (λ c κs. search needs) add-end add-end-2 (λ c. omega arith)
+    (λ c. omega arith) part-put-packet-end (λ c. search needs) (λ c. search needs) (λ c. search needs) (λ c κs. search needs) (λ c. search needs)
+    (λ c. search needs) loop-again (λ c. c .before .loop .inv .2) returns)

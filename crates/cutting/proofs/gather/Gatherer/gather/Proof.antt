@@ -6,10 +6,6 @@ use borrow.Author.Needs.{needs}
 use Rattle.cutting.proofs.gather.Gatherer.gather.Statement.{statement}
 use Rattle.cutting.proofs.gather.Gatherer.gather.Tie as tie
 
-returns : tie.Need-returns
-unfolding gatherOf
-returns c = search tests
-
 returns-2 : tie.Need-returns-2
 unfolding gatherOf
 returns-2 c = rw (lt-leb _ _ (c .before .before .before .before .if1 .left), c .before .before .item .given .1) (c .gather-byte .ensures)
@@ -19,6 +15,8 @@ unfolding gatherOf
 returns-3 c = rw (lt-leb _ _ (c .before .before .before .if1 .left), c .before .enum-told .given .1, c .close .ensures)
 
 pub gather-spec : {M : Type 1} → statement M
+unfolding gatherOf
 gather-spec =
     tie.close
-    (tie.spec returns (λ c. search needs) (λ c κs. search needs) (λ c. search needs) (λ c κs. search needs) returns-2 returns-3)
+    (tie.spec
+    (λ c. search tests) (λ c. search needs) (λ c κs. search needs) (λ c. search needs) (λ c κs. search needs) returns-2 returns-3)

@@ -8,8 +8,9 @@ use Rattle.desk.proofs.state.Desk.in_ranges.Tie as tie
 returns : tie.Need-returns
 returns c = c .records-fit .ensures ∙ ranges-by-records (c .before .before .before .args .self) (sym (c .before .before .numbers-fit .ensures) ∙ c .before .if1 .taken)
 
-returns-2 : tie.Need-returns-2
-returns-2 c = bad-numbers (c .before .before .args .self) (sym (c .before .numbers-fit .ensures) ∙ c .if1 .left)
-
 pub in-ranges-spec : {M : Type 1} → statement M
-in-ranges-spec = tie.close (tie.spec (λ c κs. search needs) (λ c κs. search needs) returns returns-2)
+in-ranges-spec =
+    tie.close
+    (tie.spec
+    (λ c κs. search needs) (λ c κs. search needs) returns
+    (λ c. bad-numbers (c .before .before .args .self) (sym (c .before .numbers-fit .ensures) ∙ c .if1 .left)))

@@ -34,7 +34,4 @@ returns-4 c =
     key-good (a .self) (a .key) (sym (in-ranges .ensures) ∙ not-false _ (if1 .left)) k (sym (c .before .is-key .ensures) ∙ not-false _ (c .if3 .left))
 
 pub key-check-spec : {M : Type 1} → statement M
-key-check-spec =
-    tie.close
-    (tie.spec
-    (λ c κs. search needs) returns (λ c κs. search needs) returns-2 (λ c κs. search needs) returns-3 returns-4)
+key-check-spec = tie.close (tie.spec (λ c κs. search needs) returns (λ c κs. search needs) returns-2 (λ c κs. search needs) returns-3 returns-4)

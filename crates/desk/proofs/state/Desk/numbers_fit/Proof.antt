@@ -12,9 +12,6 @@ returns c = bad-line (c .before .before .before .args .self) (sym (c .before .is
 returns-2 : tie.Need-returns-2
 returns-2 c = bad-number (c .before .before .before .before .before .args .self) (sym (c .before .in-range .ensures) ∙ not-true _ (c .if2 .taken))
 
-returns-3 : tie.Need-returns-3
-returns-3 c = bad-count (c .before .before .before .before .before .before .before .args .self) (c .if3 .taken)
-
 returns-4 : tie.Need-returns-4
 returns-4 c =
     let a = c .before .before .before .before .before .before .before .before .args in
@@ -30,4 +27,5 @@ pub numbers-fit-spec : {M : Type 1} → statement M
 numbers-fit-spec =
     tie.close
     (tie.spec
-    (λ c κs. search needs) returns (λ c κs. search needs) returns-2 returns-3 (λ c κs. search needs) returns-4)
+    (λ c κs. search needs) returns (λ c κs. search needs) returns-2
+    (λ c. bad-count (c .before .before .before .before .before .before .before .args .self) (c .if3 .taken)) (λ c κs. search needs) returns-4)

@@ -29,7 +29,4 @@ returns-3 c =
     queue-done (a .self) (a .rec) (sym (ap faultOf (enum-told .given .1)) ∙ record-check .ensures) (c .before .if1 .left) _ (c .with-queued .ensures)
 
 pub queue-spec : {M : Type 1} → statement M
-queue-spec =
-    tie.close
-    (tie.spec
-    (λ c κs. search needs) (λ c. search needs) returns enum-told returns-2 (λ c κs. search needs) returns-3)
+queue-spec = tie.close (tie.spec (λ c κs. search needs) (λ c. search needs) returns enum-told returns-2 (λ c κs. search needs) returns-3)

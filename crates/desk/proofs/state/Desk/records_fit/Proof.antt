@@ -22,7 +22,4 @@ returns-3 c =
     (sym (c .before .before .wanted-fits .ensures) ∙ not-false _ (c .before .if2 .left))
 
 pub records-fit-spec : {M : Type 1} → statement M
-records-fit-spec =
-    tie.close
-    (tie.spec
-    (λ c κs. search needs) returns (λ c κs. search needs) returns-2 (λ c κs. search needs) returns-3)
+records-fit-spec = tie.close (tie.spec (λ c κs. search needs) returns (λ c κs. search needs) returns-2 (λ c κs. search needs) returns-3)

@@ -19,7 +19,4 @@ returns-2 c =
     set-done (a .self) (a .rec) (sym (ap faultOf (c .before .enum-told .given .1)) ∙ record-check .ensures) _ (c .with-requested .ensures)
 
 pub set-spec : {M : Type 1} → statement M
-set-spec =
-    tie.close
-    (tie.spec
-    (λ c κs. search needs) (λ c. search needs) returns (λ c. search needs) (λ c κs. search needs) returns-2)
+set-spec = tie.close (tie.spec (λ c κs. search needs) (λ c. search needs) returns (λ c. search needs) (λ c κs. search needs) returns-2)

@@ -21,5 +21,4 @@ returns-2 c = let h : isLine (c .before .before .before .args .line) ≡ false =
     ap (λ (d : Desk). (d, refused (no 15 0))) (c .fresh2 .ensures) ∙ rw h
 
 pub start-spec : {M : Type 1} → statement M
-start-spec =
-    tie.close (tie.spec (λ c κs. search needs) (λ c κs. search needs) (λ c κs. search needs) returns returns-2)
+start-spec = tie.close (tie.spec (λ c κs. search needs) (λ c κs. search needs) (λ c κs. search needs) returns returns-2)

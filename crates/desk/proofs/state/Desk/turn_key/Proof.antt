@@ -19,6 +19,4 @@ returns-2 c =
     key-done (a .self) (a .key) (sym (ap faultOf (c .enum-told .given .1)) ∙ key-check .ensures) _ refl
 
 pub turn-key-spec : {M : Type 1} → statement M
-turn-key-spec =
-    tie.close
-    (tie.spec (λ c κs. search needs) (λ c. search needs) returns (λ c. search needs) returns-2)
+turn-key-spec = tie.close (tie.spec (λ c κs. search needs) (λ c. search needs) returns (λ c. search needs) returns-2)

@@ -5,8 +5,9 @@ use borrow.Author.Needs.{needs}
 use Rattle.master.proofs.state.Master.answered.Statement.{statement}
 use Rattle.master.proofs.state.Master.answered.Tie as tie
 
-returns : tie.Need-returns
-returns c = c .freed .ensures ∙ ap (freed (c .before .before .before .args .self)) (c .before .changed .ensures)
-
 pub answered-spec : {M : Type 1} → statement M
-answered-spec = tie.close (tie.spec (λ c κs. search needs) (λ c κs. search needs) returns)
+answered-spec =
+    tie.close
+    (tie.spec
+    (λ c κs. search needs) (λ c κs. search needs)
+    (λ c. c .freed .ensures ∙ ap (freed (c .before .before .before .args .self)) (c .before .changed .ensures)))

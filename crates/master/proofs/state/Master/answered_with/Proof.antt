@@ -16,5 +16,4 @@ returns c =
     (c .operation-after .ensures ∙ ap (λ (kind : ℕ). operationAfter (m .line) kind (a .rec) (m .operation)) (p .type-of .ensures))
 
 pub answered-with-spec : {M : Type 1} → statement M
-answered-with-spec =
-    tie.close (tie.spec (λ c κs. search needs) (λ c κs. search needs) (λ c κs. search needs) returns)
+answered-with-spec = tie.close (tie.spec (λ c κs. search needs) (λ c κs. search needs) (λ c κs. search needs) returns)

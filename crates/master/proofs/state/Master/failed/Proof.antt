@@ -31,5 +31,4 @@ returns-2 c =
     c .before .before .send .ensures ∙ sent-again (groundOf (a .cause)) (a .good) (a .self) (a .at) (now (a .out)) (if1 .left)
 
 pub failed-spec : {M : Type 1} → statement M
-failed-spec =
-    tie.close (tie.spec (λ c κs. search needs) returns add-send send-requires (λ c. search needs) returns-2)
+failed-spec = tie.close (tie.spec (λ c κs. search needs) returns add-send send-requires (λ c. search needs) returns-2)

@@ -24,7 +24,4 @@ returns-3 c =
     (sym (q .in-range .ensures) ∙ not-false _ (c .before .if2 .left))
 
 pub fits-free-spec : {M : Type 1} → statement M
-fits-free-spec =
-    tie.close
-    (tie.spec
-    (λ c κs. search needs) returns (λ c κs. search needs) returns-2 (λ c κs. search needs) returns-3)
+fits-free-spec = tie.close (tie.spec (λ c κs. search needs) returns (λ c κs. search needs) returns-2 (λ c κs. search needs) returns-3)

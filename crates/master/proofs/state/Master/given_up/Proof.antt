@@ -6,4 +6,7 @@ use Rattle.master.proofs.state.Master.given_up.Statement.{statement}
 use Rattle.master.proofs.state.Master.given_up.Tie as tie
 
 pub given-up-spec : {M : Type 1} → statement M
-given-up-spec = tie.close (tie.spec (λ c κs. search needs) (λ c κs. search needs) (λ c. c .freed .ensures ∙ ap givenUpState (c .before .with-line .ensures)))
+given-up-spec =
+    tie.close
+    (tie.spec
+    (λ c κs. search needs) (λ c κs. search needs) (λ c. c .freed .ensures ∙ ap givenUpState (c .before .with-line .ensures)))

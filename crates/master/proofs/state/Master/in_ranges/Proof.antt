@@ -28,5 +28,4 @@ returns-4 c =
     ∙ while-busy (p .before .before .args .self) (sym (p .before .fits-free .ensures) ∙ not-false _ (p .if1 .left)) (q .if2 .left) (c .before .if3 .left)
 
 pub in-ranges-spec : {M : Type 1} → statement M
-in-ranges-spec =
-    tie.close (tie.spec (λ c κs. search needs) returns returns-2 returns-3 (λ c κs. search needs) returns-4)
+in-ranges-spec = tie.close (tie.spec (λ c κs. search needs) returns returns-2 returns-3 (λ c κs. search needs) returns-4)

@@ -16,5 +16,4 @@ returns c =
     (c .after-sending .ensures) (value .ensures) (send .ensures)
 
 pub send-spec : {M : Type 1} → statement M
-send-spec =
-    tie.close (tie.spec (λ c κs. search needs) (λ c κs. search needs) (λ c κs. search needs) (λ c. search needs) returns)
+send-spec = tie.close (tie.spec (λ c κs. search needs) (λ c κs. search needs) (λ c κs. search needs) (λ c. search needs) returns)
