@@ -141,6 +141,49 @@ fn each_crate_is_drawn_in_its_group() {
     assert!(check.map_or(true, |s| s.success()), "run tools/drawing.py");
 }
 
+/// The file that a word in code cites, if it is a path: `tools/edits`, `crates/X/src` or, of a crate, `desk/specs/Hearing.antt`.
+fn cited(word: &str, parts: &Parts) -> Option<PathBuf> {
+    let plain = |c: char| c.is_ascii_alphanumeric() || "/._-".contains(c);
+    let (first, rest) = word.split_once('/')?;
+    let example = ["X", "NAME", "CRATE"]
+        .iter()
+        .any(|e| word.split(['/', '.']).any(|w| w == *e));
+    if example || !word.chars().all(plain) {
+        return None;
+    }
+    let part = rest.split('/').next().unwrap_or("");
+    if parts.contains_key(first) && ["src", "specs", "proofs", "must-fail"].contains(&part) {
+        return Some(repository("crates").join(word));
+    }
+    let folders = [
+        "crates", "docs", "examples", "host", "include", "man", "samples", "tools",
+    ];
+    folders.contains(&first).then(|| repository(word))
+}
+
+/// No page but the one of past changes cites a file that is not there.
+#[test]
+fn each_path_that_a_page_cites_is_there() {
+    let parts = listed();
+    assert!(cited("desk/specs/Nowhere.antt", &parts).is_some_and(|path| !path.exists()));
+    assert!(cited("crates/X/src", &parts).is_none() && cited("W1/W2", &parts).is_none());
+    let docs = fs::read_dir(repository("docs")).expect("docs");
+    let docs = docs.map(|e| {
+        format!(
+            "docs/{}",
+            e.expect("an entry").file_name().to_string_lossy()
+        )
+    });
+    let pages = docs.filter(|p| p.ends_with(".md") && p != "docs/CHANGES.md");
+    for page in pages.chain(["README.md".to_string(), "CONTRIBUTING.md".to_string()]) {
+        for word in text(&page).split('`').skip(1).step_by(2) {
+            if let Some(path) = cited(word, &parts) {
+                assert!(path.exists(), "{page} cites {word}, which is not there");
+            }
+        }
+    }
+}
+
 /// The names of `use` lines that nothing else in a file has. `_++_` stands as `++` between two things; a `pub use` passes
 /// its names on.
 fn unused(text: &str) -> Vec<String> {
