@@ -103,7 +103,7 @@ def group(crates, uses):
             continue
         lines.append(f'    subgraph {crate} ["{label}"]')
         name = {m: f'{crate}_{re.sub("::", "_", m)}' for m in inside}
-        lines += [f'        {name[m]}[{m}]' for m in inside]
+        lines += [f'        {name[m]}["{m}"]' for m in inside]
         lines += [f'        {name[a]} --> {name[b]}' for a, b in near(inside)]
         lines.append('    end')
     mine = {c: [u for u in uses[c] if u in crates] for c in crates}
