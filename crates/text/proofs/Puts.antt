@@ -37,9 +37,9 @@ pub one : (out : List ℕ) (at byte : ℕ) → at < length out → (at + 1, set 
 unfolding puts
 one out at byte h = rw (lt-ltb at (length out) h, add-one at)
 
--- the next byte of what is left of a text, and then the rest
-pub byte-on : (left rest : List ℕ) (b at : ℕ) (out : List ℕ) (a : ℕ) (o : List ℕ) → left ≡ b ∷ rest → (a, o) ≡ puts (b ∷ []) at out → puts rest a o ≡ puts left at out
-byte-on left rest b at out a o e h = onward (b ∷ []) rest at out a o h ∙ ap (λ (t : List ℕ). puts t at out) (sym e)
+-- the next part of what is left of a text, and then the rest
+pub part-on : (t u : List ℕ) (at : ℕ) (out : List ℕ) (a : ℕ) (o : List ℕ) {left : List ℕ} {whole : ℕ × List ℕ} → (a, o) ≡ puts t at out → left ≡ t ++ u → puts left at out ≡ whole → puts u a o ≡ whole
+part-on t u at out a o h e g = onward t u at out a o h ∙ ap (λ (x : List ℕ). puts x at out) (sym e) ∙ g
 
 -- what is left of a text from a place on
 pub from-here : (s : List ℕ) (i b : ℕ) → i < length s → b ≡ getD s i 0 → drop i s ≡ b ∷ drop (i + 1) s

@@ -66,13 +66,13 @@ unfolding wordValuesOn
 how-many s zero n = refl
 how-many s (suc k) n = ap suc (how-many s k (suc n))
 
--- one word more is taken
-pub taken : (s v : List ℕ) (j x : ℕ) → j < length v → x ≡ wordValue j s → ((k : ℕ) → k < j → getD v k 0 ≡ wordValue k s)
-    → (k : ℕ) → k < j + 1 → getD (set v j x) k 0 ≡ wordValue k s
-taken s v j x l e h k g =
+-- one more is taken
+pub taken : {A : Type 0} (thing : ℕ → A) (d : A) (v : List A) (j : ℕ) (x : A) → j < length v → x ≡ thing j → ((k : ℕ) → k < j → getD v k d ≡ thing k)
+    → (k : ℕ) → k < j + 1 → getD (set v j x) k d ≡ thing k
+taken thing d v j x l e h k g =
     on-test (eqb k j)
-    (λ q. let f : k ≡ j = eqb-true k j q in rw (f, getD-set-same v j x 0 l) e)
-    (λ q. getD-set-other v j k x 0 (eqb-false k j q) ∙ h k (omega (arith, eqb-false k j q)))
+    (λ q. let f : k ≡ j = eqb-true k j q in rw (f, getD-set-same v j x d l) e)
+    (λ q. getD-set-other v j k x d (eqb-false k j q) ∙ h k (omega (arith, eqb-false k j q)))
 
 pub all-taken : (s v : List ℕ) → length v ≡ 10 → ((k : ℕ) → k < 10 → getD v k 0 ≡ wordValue k s) → v ≡ wordValues s
 unfolding wordValues

@@ -5,11 +5,9 @@ use borrow.Author.Needs.{needs}
 use Rattle.text.proofs.amounts.put_bytes.Statement.{statement}
 use Rattle.text.proofs.amounts.put_bytes.Tie as tie
 
-returns : tie.Need-returns
-unfolding bytesText
-returns c = search then
-
 pub put-bytes-spec : {M : Type 1} → statement M
+unfolding bytesText
 put-bytes-spec =
     tie.close
-    (tie.spec (λ c κs. search needs) (λ c. search needs) (λ c κs. search needs) (λ c. search needs) returns)
+    (tie.spec
+    (λ c κs. search needs) (λ c. search needs) (λ c κs. search needs) (λ c. search needs) (λ c. search then))

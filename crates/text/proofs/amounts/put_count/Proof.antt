@@ -5,11 +5,9 @@ use borrow.Author.Needs.{needs}
 use Rattle.text.proofs.amounts.put_count.Statement.{statement}
 use Rattle.text.proofs.amounts.put_count.Tie as tie
 
-returns : tie.Need-returns
-unfolding countSaid
-returns c = search then
-
 pub put-count-spec : {M : Type 1} → statement M
+unfolding countSaid
 put-count-spec =
     tie.close
-    (tie.spec (λ c. search needs) (λ c κs. search needs) (λ c κs. search needs) (λ c. search needs) returns)
+    (tie.spec
+    (λ c. search needs) (λ c κs. search needs) (λ c κs. search needs) (λ c. search needs) (λ c. search then))

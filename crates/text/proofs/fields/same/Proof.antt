@@ -16,27 +16,6 @@ Inv-loop a b all₀ i₀ i-end all i = (i ≤ length a) × (i-end ≡ length a) 
 abbrev μ-loop : tie.MeasureT-loop
 μ-loop a b all₀ i₀ i-end all i = length a - i
 
-returns : tie.Need-returns Inv-loop μ-loop
-returns c = other-length _ _ (c .if1 .taken)
-
-loop-holds : tie.Need-loop-holds Inv-loop μ-loop
-loop-holds c = (omega arith, refl, omega arith, refl)
-
-byte-at-requires : tie.Need-byte-at-requires Inv-loop μ-loop
-byte-at-requires c κs = search needs
-
-byte-at-requires-2 : tie.Need-byte-at-requires-2 Inv-loop μ-loop
-byte-at-requires-2 c κs = search needs
-
-still-requires : tie.Need-still-requires Inv-loop μ-loop
-still-requires c κs = search needs
-
-add-i : tie.Need-add-i Inv-loop μ-loop
-add-i c = search needs
-
-loop-less : tie.Need-loop-less Inv-loop μ-loop
-loop-less c = search needs
-
 loop-again : tie.Need-loop-again Inv-loop μ-loop
 loop-again c =
     let l = c .before .before .before .before .loop in (
@@ -46,11 +25,10 @@ loop-again c =
       same-on _ _ (l .i) _ _ (l .all) _ (omega arith) (l .inv .2) (c .before .before .byte-at .ensures) (c .before .byte-at2 .ensures) (c .still .ensures) ∙ l .inv .3,
     )
 
-returns-2 : tie.Need-returns-2 Inv-loop μ-loop
-returns-2 c = let l = c .before .loop in all-seen (l .all) _ (none-left _ _ (l .i) (omega arith) (l .inv .2)) ∙ l .inv .3
-
 pub same-spec : {M : Type 1} → statement M
 same-spec =
     tie.close
     (tie.spec
-    Inv-loop μ-loop returns loop-holds byte-at-requires byte-at-requires-2 still-requires add-i loop-less loop-again returns-2)
+    Inv-loop μ-loop (λ c. other-length _ _ (c .if1 .taken)) (λ c. (omega arith, refl, omega arith, refl)) (λ c κs. search needs)
+    (λ c κs. search needs) (λ c κs. search needs) (λ c. search needs) (λ c. search needs) loop-again
+    (λ c. let l = c .before .loop in all-seen (l .all) _ (none-left _ _ (l .i) (omega arith) (l .inv .2)) ∙ l .inv .3))

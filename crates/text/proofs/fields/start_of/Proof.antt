@@ -16,25 +16,12 @@ Inv-loop s separator number from₀ counter₀ from counter = (counter ≤ numbe
 abbrev μ-loop : tie.MeasureT-loop
 μ-loop s separator number from₀ counter₀ from counter = number - counter
 
-loop-holds : tie.Need-loop-holds Inv-loop μ-loop
-loop-holds c = (omega arith, rw sub-zero)
-
-behind-requires : tie.Need-behind-requires Inv-loop μ-loop
-behind-requires c κs = search needs
-
-add-counter : tie.Need-add-counter Inv-loop μ-loop
-add-counter c = search needs
-
-loop-less : tie.Need-loop-less Inv-loop μ-loop
-loop-less c = search needs
-
 loop-again : tie.Need-loop-again Inv-loop μ-loop
 loop-again c = let l = c .before .before .loop in (omega arith, field-passed _ _ _ (l .counter) (l .from) (c .behind .result) (omega arith) (c .behind .ensures) ∙ l .inv .1)
-
-returns : tie.Need-returns Inv-loop μ-loop
-returns c = let l = c .before .loop in sym (all-passed _ _ _ (l .counter) (omega arith)) ∙ l .inv .1
 
 pub start-of-spec : {M : Type 1} → statement M
 start-of-spec =
     tie.close
-    (tie.spec Inv-loop μ-loop loop-holds behind-requires add-counter loop-less loop-again returns)
+    (tie.spec
+    Inv-loop μ-loop (λ c. (omega arith, rw sub-zero)) (λ c κs. search needs) (λ c. search needs) (λ c. search needs) loop-again
+    (λ c. let l = c .before .loop in sym (all-passed _ _ _ (l .counter) (omega arith)) ∙ l .inv .1))

@@ -16,27 +16,11 @@ Inv-loop words count one k₀ k = (k ≤ count) × (wordPlaceFrom (count - k) k 
 abbrev μ-loop : tie.MeasureT-loop
 μ-loop words count one k₀ k = count - k
 
-loop-holds : tie.Need-loop-holds Inv-loop μ-loop
-unfolding wordPlace
-loop-holds c = (omega arith, rw sub-zero)
-
-word-requires : tie.Need-word-requires Inv-loop μ-loop
-word-requires c κs = search needs
-
-same-requires : tie.Need-same-requires Inv-loop μ-loop
-same-requires c κs = search needs
-
 returns : tie.Need-returns Inv-loop μ-loop
 returns c =
     let l = c .before .before .before .before .loop in
     let w = c .before .before .before .before .before .before .before .args .one .now in
     found-at _ _ _ (l .k) _ (omega arith) (c .before .same .ensures ∙ ap (λ (t : List ℕ). sameText t w) (c .before .before .word .ensures)) (c .if1 .taken) ∙ l .inv .1
-
-add-k : tie.Need-add-k Inv-loop μ-loop
-add-k c = search needs
-
-loop-less : tie.Need-loop-less Inv-loop μ-loop
-loop-less c = search needs
 
 loop-again : tie.Need-loop-again Inv-loop μ-loop
 loop-again c =
@@ -44,11 +28,10 @@ loop-again c =
     let w = c .before .before .before .before .before .before .before .args .one .now in
     (omega arith, not-at _ _ _ (l .k) _ (omega arith) (c .before .same .ensures ∙ ap (λ (t : List ℕ). sameText t w) (c .before .before .word .ensures)) (c .if1 .left) ∙ l .inv .1)
 
-returns-2 : tie.Need-returns-2 Inv-loop μ-loop
-returns-2 c = let l = c .before .loop in nowhere _ _ _ (l .k) (omega arith) ∙ l .inv .1
-
 pub word-place-spec : {M : Type 1} → statement M
+unfolding wordPlace
 word-place-spec =
     tie.close
     (tie.spec
-    Inv-loop μ-loop loop-holds word-requires same-requires returns add-k loop-less loop-again returns-2)
+    Inv-loop μ-loop (λ c. (omega arith, rw sub-zero)) (λ c κs. search needs) (λ c κs. search needs) returns (λ c. search needs) (λ c. search needs)
+    loop-again (λ c. let l = c .before .loop in nowhere _ _ _ (l .k) (omega arith) ∙ l .inv .1))

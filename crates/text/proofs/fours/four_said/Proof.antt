@@ -5,14 +5,11 @@ use borrow.Author.Needs.{needs}
 use Rattle.text.proofs.fours.four_said.Statement.{statement}
 use Rattle.text.proofs.fours.four_said.Tie as tie
 
-returns : tie.Need-returns
-unfolding fourSaid
-returns c = omega arith
-
 pub four-said-spec : {M : Type 1} → statement M
+unfolding fourSaid
 four-said-spec =
     tie.close
     (tie.spec
     (λ c κs. search needs) (λ c κs. search needs) (λ c κs. search needs) (λ c κs. search needs) (λ c. search needs) (λ c. search needs)
     (λ c. search needs) (λ c. search needs) (λ c. search needs) (λ c. search needs) (λ c. search needs) (λ c. search needs) (λ c. search needs)
-    (λ c. search needs) returns)
+    (λ c. search needs) (λ c. omega arith))

@@ -4,12 +4,9 @@ use borrow.Author.Needs.{needs}
 use Rattle.text.proofs.fours.put_four.Statement.{statement}
 use Rattle.text.proofs.fours.put_four.Tie as tie
 
-returns : tie.Need-returns
-returns c = put-spelt (c .before .before .before .before .before .before .args .n) _ _ _ _ (c .before .before .put-text .ensures)
-
 pub put-four-spec : {M : Type 1} → statement M
 put-four-spec =
     tie.close
     (tie.spec
     (λ c. search needs) (λ c. search needs) (λ c. search needs) (λ c. search needs) (λ c. search needs) (λ c κs. search needs) (λ c. search needs)
-    returns)
+    (λ c. put-spelt (c .before .before .before .before .before .before .args .n) _ _ _ _ (c .before .before .put-text .ensures)))

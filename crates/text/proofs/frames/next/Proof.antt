@@ -6,16 +6,11 @@ use borrow.Author.Needs.{needs}
 use Rattle.text.proofs.frames.next.Statement.{statement}
 use Rattle.text.proofs.frames.next.Tie as tie
 
-returns : tie.Need-returns
-returns c = (omega arith, next-plain (now (c .before .before .args .text)) (c .before .before .args .at) (c .if1 .taken))
-
-returns-2 : tie.Need-returns-2
-returns-2 c = let a = c .before .before .before .args in (omega arith, next-last (now (a .text)) (a .at) (c .before .if1 .left) (c .if2 .taken))
-
-returns-3 : tie.Need-returns-3
-returns-3 c = let a = c .before .before .before .args in (omega arith, next-hex (now (a .text)) (a .at) (c .before .if1 .left))
-
 pub next-spec : {M : Type 1} → statement M
 next-spec =
     tie.close
-    (tie.spec (λ c. search needs) (λ c. search needs) returns (λ c. search needs) returns-2 (λ c. search needs) returns-3)
+    (tie.spec
+    (λ c. search needs) (λ c. search needs)
+    (λ c. (omega arith, next-plain (now (c .before .before .args .text)) (c .before .before .args .at) (c .if1 .taken))) (λ c. search needs)
+    (λ c. let a = c .before .before .before .args in (omega arith, next-last (now (a .text)) (a .at) (c .before .if1 .left) (c .if2 .taken)))
+    (λ c. search needs) (λ c. let a = c .before .before .before .args in (omega arith, next-hex (now (a .text)) (a .at) (c .before .if1 .left))))

@@ -5,7 +5,7 @@ use native.Mathlib.Omega.{arith}
 use lib.ListN.{length, drop}
 use Rattle.text.specs.Putting.{puts}
 use Rattle.text.specs.Frames.{meantOn, meantBy}
-use Rattle.text.proofs.Puts.{byte-on, put-all}
+use Rattle.text.proofs.Puts.{part-on, put-all}
 use Rattle.text.proofs.Shown.{meant-here, meant-done}
 use borrow.Author.Needs.{needs}
 use Rattle.text.proofs.frames.put_meant.Statement.{statement}
@@ -17,41 +17,19 @@ Inv-loop out₀ at text place₀ i₀ out place i = (length out ≡ length out�
 abbrev μ-loop : tie.MeasureT-loop
 μ-loop out₀ at text place₀ i₀ out place i = length text - i
 
-loop-holds : tie.Need-loop-holds Inv-loop μ-loop
-unfolding meantBy
-loop-holds c = (refl, refl)
-
-byte-meant-requires : tie.Need-byte-meant-requires Inv-loop μ-loop
-byte-meant-requires c κs = search needs
-
-put-byte-requires : tie.Need-put-byte-requires Inv-loop μ-loop
-put-byte-requires c κs = search needs
-
-next-requires : tie.Need-next-requires Inv-loop μ-loop
-next-requires c κs = search needs
-
-loop-less : tie.Need-loop-less Inv-loop μ-loop
-loop-less c = omega (arith, c .next .ensures .0)
-
 loop-again : tie.Need-loop-again Inv-loop μ-loop
 loop-again c =
     let p = c .before .before .before in
     let l = p .before .before .before .before .loop in (
       p .put-byte .kept .0 ∙ l .inv .0,
-      byte-on _ _ _ _ _ _ _
-          (meant-here _ (l .i) (c .next .result) _ (p .before .before .before .loop-test .taken) (c .next .ensures .1) (p .before .byte-meant .ensures))
-          (p .put-byte .ensures)
-          ∙ l .inv .1,
+      part-on _ _ _ _ _ _ (p .put-byte .ensures)
+          (meant-here _ (l .i) (c .next .result) _ (p .before .before .before .loop-test .taken) (c .next .ensures .1) (p .before .byte-meant .ensures)) (l .inv .1),
     )
 
-same-length : tie.Need-same-length Inv-loop μ-loop
-same-length c = c .before .loop .inv .0
-
-returns : tie.Need-returns Inv-loop μ-loop
-returns c = let l = c .before .loop in put-all _ _ _ _ _ _ (meant-done _ (l .i) (omega arith)) (l .inv .1)
-
 pub put-meant-spec : {M : Type 1} → statement M
+unfolding meantBy
 put-meant-spec =
     tie.close
     (tie.spec
-    Inv-loop μ-loop loop-holds byte-meant-requires put-byte-requires next-requires loop-less loop-again same-length returns)
+    Inv-loop μ-loop (λ c. (refl, refl)) (λ c κs. search needs) (λ c κs. search needs) (λ c κs. search needs) (λ c. omega (arith, c .next .ensures .0))
+    loop-again (λ c. c .before .loop .inv .0) (λ c. let l = c .before .loop in put-all _ _ _ _ _ _ (meant-done _ (l .i) (omega arith)) (l .inv .1)))

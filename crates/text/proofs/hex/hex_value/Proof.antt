@@ -5,10 +5,9 @@ use borrow.Author.Needs.{needs}
 use Rattle.text.proofs.hex.hex_value.Statement.{statement}
 use Rattle.text.proofs.hex.hex_value.Tie as tie
 
-returns : tie.Need-returns
-unfolding hexSays
-returns c = omega arith
-
 pub hex-value-spec : {M : Type 1} → statement M
+unfolding hexSays
 hex-value-spec =
-    tie.close (tie.spec (λ c κs. search needs) (λ c. search needs) (λ c κs. search needs) (λ c. search needs) returns)
+    tie.close
+    (tie.spec
+    (λ c κs. search needs) (λ c. search needs) (λ c κs. search needs) (λ c. search needs) (λ c. omega arith))

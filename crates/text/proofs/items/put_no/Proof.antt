@@ -5,12 +5,10 @@ use borrow.Author.Needs.{needs}
 use Rattle.text.proofs.items.put_no.Statement.{statement}
 use Rattle.text.proofs.items.put_no.Tie as tie
 
-returns : tie.Need-returns
-unfolding refusalText
-returns c = search then
-
 pub put-no-spec : {M : Type 1} → statement M
+unfolding refusalText
 put-no-spec =
     tie.close
     (tie.spec
-    (λ c. search needs) (λ c κs. search needs) (λ c κs. search needs) (λ c κs. search needs) (λ c κs. search needs) (λ c. search needs) returns)
+    (λ c. search needs) (λ c κs. search needs) (λ c κs. search needs) (λ c κs. search needs) (λ c κs. search needs) (λ c. search needs)
+    (λ c. search then))

@@ -11,9 +11,6 @@ use borrow.Author.Needs.{needs}
 use Rattle.text.proofs.items.put_values.Statement.{statement}
 use Rattle.text.proofs.items.put_values.Tie as tie
 
-slice-aggregate-put-numbers : tie.Need-slice-aggregate-put-numbers
-slice-aggregate-put-numbers c = sym (length-take-le (c .before .before .count-of .result) _ (omega (arith, most (c .before .before .before .before .before .args .rec))))
-
 returns : tie.Need-returns
 returns c =
     let n = c .before .before .before .before .before in
@@ -26,4 +23,5 @@ put-values-spec =
     tie.close
     (tie.spec
     (λ c κs. search needs) (λ c κs. search needs) (λ c. omega (arith, most (c .before .before .before .before .args .rec)))
-    slice-aggregate-put-numbers (λ c κs. search needs) (λ c. search needs) returns)
+    (λ c. sym (length-take-le (c .before .before .count-of .result) _ (omega (arith, most (c .before .before .before .before .before .args .rec)))))
+    (λ c κs. search needs) (λ c. search needs) returns)

@@ -17,32 +17,15 @@ Inv-loop s n₀ i₀ i-end n i = (i ≤ length s) × (i-end ≡ length s) × (n 
 abbrev μ-loop : tie.MeasureT-loop
 μ-loop s n₀ i₀ i-end n i = length s - i
 
-loop-holds : tie.Need-loop-holds Inv-loop μ-loop
-unfolding numberSaid
-loop-holds c = (omega arith, refl, omega arith, refl)
-
-byte-at-requires : tie.Need-byte-at-requires Inv-loop μ-loop
-byte-at-requires c κs = search needs
-
-with-digit-requires : tie.Need-with-digit-requires Inv-loop μ-loop
-with-digit-requires c κs = search needs
-
-add-i : tie.Need-add-i Inv-loop μ-loop
-add-i c = search needs
-
-loop-less : tie.Need-loop-less Inv-loop μ-loop
-loop-less c = search needs
-
 loop-again : tie.Need-loop-again Inv-loop μ-loop
 loop-again c =
     let l = c .before .before .before .loop in
     (omega arith, l .inv .1, omega (arith, c .with-digit .ensures), digit-on _ (l .i) _ _ _ (omega arith) (c .before .byte-at .ensures) (c .with-digit .ensures) ∙ l .inv .3)
 
-returns : tie.Need-returns Inv-loop μ-loop
-returns c = let l = c .before .loop in all-read _ (l .i) (l .n) (omega arith) (l .inv .2) ∙ l .inv .3
-
 pub number-spec : {M : Type 1} → statement M
+unfolding numberSaid
 number-spec =
     tie.close
     (tie.spec
-    Inv-loop μ-loop loop-holds byte-at-requires with-digit-requires add-i loop-less loop-again returns)
+    Inv-loop μ-loop (λ c. (omega arith, refl, omega arith, refl)) (λ c κs. search needs) (λ c κs. search needs) (λ c. search needs)
+    (λ c. search needs) loop-again (λ c. let l = c .before .loop in all-read _ (l .i) (l .n) (omega arith) (l .inv .2) ∙ l .inv .3))

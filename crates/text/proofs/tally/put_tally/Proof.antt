@@ -5,13 +5,10 @@ use borrow.Author.Needs.{needs}
 use Rattle.text.proofs.tally.put_tally.Statement.{statement}
 use Rattle.text.proofs.tally.put_tally.Tie as tie
 
-returns : tie.Need-returns
-unfolding tallyText
-returns c = search then
-
 pub put-tally-spec : {M : Type 1} → statement M
+unfolding tallyText
 put-tally-spec =
     tie.close
     (tie.spec
     (λ c κs. search needs) (λ c. search needs) (λ c κs. search needs) (λ c κs. search needs) (λ c. search needs) (λ c κs. search needs)
-    (λ c. search needs) returns)
+    (λ c. search needs) (λ c. search then))
