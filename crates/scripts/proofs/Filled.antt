@@ -1,4 +1,4 @@
--- The bytes of an output up to the last that is not #, and texts that are the same. Assumes nothing.
+-- The bytes of an output up to the last that is not #. Assumes nothing.
 use mathlib.Core.Path.{_≡_, ap, _∙_}
 use mathlib.Core.List.{List}
 use Prim.Native.Char.{code}
@@ -6,7 +6,6 @@ use Prim.Native.Nat.{ℕ, zero, suc, _-_, _<_}
 use native.Mathlib.Omega.{arith}
 use lib.ListN.{getD}
 use borrow.Author.Tests.{eq-eqb, ne-eqb}
-use Rattle.text.specs.Putting.{puts}
 use Rattle.scripts.specs.Printing.{filledIn}
 
 -- a byte # is passed
@@ -31,7 +30,3 @@ last-here s (suc n) b h e k =
 pub none-here : (s : List ℕ) (n : ℕ) → n ≡ 0 → 0 ≡ filledIn n s
 unfolding filledIn
 none-here s n e = rw e
-
--- what was put is a text that equals it
-pub same-text : (t u : List ℕ) (at : ℕ) (out : List ℕ) (p : ℕ × List ℕ) → t ≡ u → p ≡ puts t at out → p ≡ puts u at out
-same-text t u at out p e h = h ∙ ap (λ (x : List ℕ). puts x at out) e

@@ -40,15 +40,22 @@ meant-front n row out r x l h =
     ∙ ap (λ (i : ℕ). take i (meantAt n row)) k
 
 -- the front of an output that holds # all over
-pub blank-front : (n k : ℕ) → n ≤ k → take n (blankOf k) ≡ blankOf n
+blank-front : (n k : ℕ) → n ≤ k → take n (blankOf k) ≡ blankOf n
 blank-front zero k h = refl
 blank-front (suc n) zero h = absurd (not-suc-le-zero h)
 blank-front (suc n) (suc k) h = ap (λ (t : List ℕ). code "#" ∷ t) (blank-front n k (le-of-suc-le-suc h))
 
 -- no row gives more room than 128
-pub room-most : (row : List ℕ) → roomOf row ≤ 128
+most : (row : List ℕ) → roomOf row ≤ 128
 unfolding roomOf
-room-most row =
+most row =
     order (wordValue 3 row) 128
     (λ l. rw (lt-ltb (wordValue 3 row) 128 l) (omega arith))
     (λ m. rw (le-ltb (wordValue 3 row) 128 m) (omega arith))
+
+-- so the room lies within an output of 128, and what is lent of it holds # all over
+pub within : (row : List ℕ) {room : ℕ} → room ≡ roomOf row → room ≤ 128
+within row e = omega (arith, e, most row)
+
+pub lent : (row : List ℕ) {room : ℕ} → room ≡ roomOf row → take room (blankOf 128) ≡ blankOf (roomOf row)
+lent row e = ap (λ (n : ℕ). take n (blankOf 128)) e ∙ blank-front (roomOf row) 128 (most row)

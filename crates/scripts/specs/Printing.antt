@@ -33,8 +33,12 @@ unfoldable pub numberText : List ℕ → ℕ → List ℕ
 numberText word n = word ++ decimalText n
 
 -- a line is good or lost
-unfoldable pub lineText : Bool → List ℕ
+abbrev pub lineText : Bool → List ℕ
 lineText good = cond good (codes "; line good") (codes "; line lost")
+
+-- what every row ends with: the line, and two numbers of the state, each behind its word
+unfoldable pub endText : Bool → List ℕ → ℕ → List ℕ → ℕ → List ℕ
+endText good word n other m = lineText good ++ (numberText word n ++ (numberText other m ++ (lf ∷ [])))
 
 -- how many of the first n bytes there are up to the last that is not #
 unfoldable pub filledIn : ℕ → List ℕ → ℕ

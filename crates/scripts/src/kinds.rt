@@ -1,8 +1,7 @@
 // What a row is of.
 ghost use mathlib.Core.Path.{_≡_};
 ghost use Rattle.scripts.specs.Kinds.{unnamedOf, kindNumbered, kindOf};
-use text::fields::word;
-use text::fields::word_place;
+use crate::meanings::named;
 
 // A row of the desk, of the master or of elapsed time; else a comment, or unknown.
 pub enum Kind {
@@ -41,5 +40,5 @@ fn kind_numbered(n: usize, row: &[u8]) -> Kind
 pub fn kind_of(row: &[u8]) -> Kind
     ensures { λ r. ⌜ r ≡ kindOf (now (row .entry)) ⌝ }
 {
-    kind_numbered(word_place(b"desk master elapsed", 3, word(row, 0)), row)
+    kind_numbered(named(row, 0, b"desk master elapsed", 3), row)
 }

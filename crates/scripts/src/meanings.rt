@@ -1,12 +1,22 @@
 // What the words of a row mean.
 ghost use mathlib.Core.Path.{_≡_};
+ghost use Rattle.text.specs.Fields.{wordOf, wordPlace};
 ghost use Rattle.text.specs.Putting.{puts};
 ghost use Rattle.scripts.specs.Meanings.{smallAt, roomOf, recordAt, meantAt};
 use records::records::Record;
 use text::fields::from_field;
+use text::fields::word;
+use text::fields::word_place;
 use text::fields::word_value;
 use text::frames::put_meant;
 use text::items::record_said;
+
+// The place of a row's word of this number among so many words; their count where it is none of them.
+pub(crate) fn named(row: &[u8], at: usize, words: &[u8], count: usize) -> usize
+    ensures { λ r. ⌜ r ≡ wordPlace (now (words .entry)) count (wordOf at (now (row .entry))) ⌝ }
+{
+    word_place(words, count, word(row, at))
+}
 
 // A word as a number kept in a byte.
 pub fn small(row: &[u8], at: usize) -> u8

@@ -1,12 +1,17 @@
 // What rows print.
+ghost use mathlib.Core.Bool.{cond};
+ghost use mathlib.Core.List.{_++_};
 ghost use mathlib.Core.Path.{_≡_};
+ghost use Rattle.text.specs.Items.{recordText};
 ghost use Rattle.text.specs.Putting.{puts};
-ghost use Rattle.scripts.specs.Printing.{beganText, commentText, unknownText, elapsedText, numberText, lineText, filledOf, firstText, outputText};
+ghost use Rattle.scripts.specs.Printing.{beganText, commentText, unknownText, elapsedText, numberText, lineText, endText, filledOf, firstText, outputText};
 use characters::slices::byte_at;
 use characters::slices::part;
 use clock::clock::elapsed;
+use records::records::Record;
 use text::fields::word_value;
 use text::frames::put_shown;
+use text::items::put_record;
 use text::numbers::put_number;
 use text::putting::put_byte;
 use text::putting::put_text;
@@ -54,14 +59,47 @@ pub fn number(out: &mut [u8], at: usize, word: &[u8], n: u64) -> usize
     put_number(out, a, n)
 }
 
+// A record behind a word.
+pub(crate) fn put_behind(out: &mut [u8], at: usize, word: &[u8], rec: Record) -> usize
+    ensures { λ r. ⌜ (r, now (out .exit)) ≡ puts (now (word .entry) ++ recordText rec) at (now (out .entry)) ⌝ }
+{
+    let a = put_text(out, at, word);
+    put_record(out, a, rec)
+}
+
+// One text where something holds, another where it does not.
+pub(crate) fn put_either(out: &mut [u8], at: usize, holds: bool, text: &[u8], other: &[u8]) -> usize
+    ensures { λ r. ⌜ (r, now (out .exit)) ≡ puts (cond holds (now (text .entry)) (now (other .entry))) at (now (out .entry)) ⌝ }
+{
+    if holds {
+        return put_text(out, at, text);
+    }
+    put_text(out, at, other)
+}
+
 // A line is good or lost.
 pub fn line(out: &mut [u8], at: usize, good: bool) -> usize
     ensures { λ r. ⌜ (r, now (out .exit)) ≡ puts (lineText good) at (now (out .entry)) ⌝ }
 {
-    if good {
-        return put_text(out, at, b"; line good");
-    }
-    put_text(out, at, b"; line lost")
+    put_either(out, at, good, b"; line good", b"; line lost")
+}
+
+// What every row ends with: the line, and two numbers of the state, each behind its word.
+pub(crate) fn end(
+    out: &mut [u8],
+    at: usize,
+    good: bool,
+    word: &[u8],
+    n: u64,
+    other: &[u8],
+    m: u64,
+) -> usize
+    ensures { λ r. ⌜ (r, now (out .exit)) ≡ puts (endText good (now (word .entry)) n (now (other .entry)) m) at (now (out .entry)) ⌝ }
+{
+    let a = line(out, at, good);
+    let b = number(out, a, word, n);
+    let c = number(out, b, other, m);
+    put_byte(out, c, b'\n')
 }
 
 // How many of these bytes there are up to the last that is not #.

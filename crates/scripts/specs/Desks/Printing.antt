@@ -3,19 +3,18 @@ use mathlib.Core.Bool.{Bool}
 use mathlib.Core.List.{List, [], _∷_, _++_}
 use Prim.Native.Nat.{ℕ, zero, suc}
 use Rattle.laws.specs.Text.{codes}
-use Rattle.characters.specs.Marks.{lf}
 use Rattle.desk.specs.declared.replying.Wanted as w
 use Rattle.desk.specs.declared.waiting.Waiting.{Waiting}
 use Rattle.desk.specs.declared.state.Desk.{Desk}
 use Rattle.desk.specs.Answers.{Done}
 use Rattle.desk.specs.Heard.{Told}
 use Rattle.text.specs.Items.{recordText}
-use Rattle.scripts.specs.Printing.{beganText, numberText, lineText, firstText, outputText}
+use Rattle.scripts.specs.Printing.{beganText, numberText, endText, firstText, outputText}
 use Rattle.scripts.specs.Tellings.Desks.{doneText, toldText}
 
 -- what every row ends with: line, last number taken, queued records
-unfoldable pub numbersText : Bool → ℕ → ℕ → List ℕ
-numbersText good last queued = lineText good ++ (numberText (codes ", last ") last ++ (numberText (codes ", queued ") queued ++ (lf ∷ [])))
+abbrev pub numbersText : Bool → ℕ → ℕ → List ℕ
+numbersText good last queued = endText good (codes ", last ") last (codes ", queued ") queued
 
 -- a call that hears nothing: what it answers, and the state's numbers
 unfoldable pub steppedText : List ℕ → Done → Bool → ℕ → ℕ → List ℕ
@@ -42,7 +41,7 @@ wantedText w.the-variants.None = []
 wantedText (w.the-variants.Is rec) = setText (recordText rec)
 
 -- a record that waits
-unfoldable pub waitingText : Waiting → List ℕ
+abbrev pub waitingText : Waiting → List ℕ
 waitingText waiting = codes ", waits " ++ recordText (waiting .rec)
 
 -- the first so many that wait, the oldest first

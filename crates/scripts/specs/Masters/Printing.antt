@@ -1,20 +1,19 @@
 -- What a row of the master prints (docs/SCENES.md). Assumes nothing.
 use mathlib.Core.Bool.{Bool, cond}
-use mathlib.Core.List.{List, [], _∷_, _++_}
+use mathlib.Core.List.{List, [], _++_}
 use Prim.Native.Nat.{ℕ}
 use lib.Dec.{eqb}
 use Rattle.laws.specs.Text.{codes}
-use Rattle.characters.specs.Marks.{lf}
 use Rattle.records.specs.declared.records.Record.{Record}
 use Rattle.master.specs.declared.state.Master.{Master}
 use Rattle.master.specs.Answers.{Told}
 use Rattle.text.specs.Items.{recordText}
-use Rattle.scripts.specs.Printing.{beganText, numberText, lineText, outputText}
+use Rattle.scripts.specs.Printing.{beganText, numberText, endText, outputText}
 use Rattle.scripts.specs.Tellings.Masters.{toldText}
 
 -- what every row ends with: line, number to send, sending count
-unfoldable pub numbersText : Bool → ℕ → ℕ → List ℕ
-numbersText good number count = lineText good ++ (numberText (codes ", number ") number ++ (numberText (codes ", count ") count ++ (lf ∷ [])))
+abbrev pub numbersText : Bool → ℕ → ℕ → List ℕ
+numbersText good number count = endText good (codes ", number ") number (codes ", count ") count
 
 -- what a call did, what its output holds, and the state's numbers
 unfoldable pub didText : List ℕ → Told → List ℕ → Bool → ℕ → ℕ → List ℕ
@@ -25,7 +24,7 @@ unfoldable pub alteredText : List ℕ → Bool → ℕ → ℕ → List ℕ
 alteredText row good number count = beganText row ++ (codes "altered" ++ numbersText good number count)
 
 -- whether the key is known to be in position Operation
-unfoldable pub operationText : Bool → List ℕ
+abbrev pub operationText : Bool → List ℕ
 operationText operation = cond operation (codes ", operation") []
 
 -- the line, T0's start, and the key position by which T0 is

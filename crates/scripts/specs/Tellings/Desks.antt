@@ -20,7 +20,7 @@ doneText d.lost = codes "line noted lost"
 doneText (d.refused x) = refusalText x
 
 -- before what was heard, where this call noted the line lost
-unfoldable pub notedText : Bool → List ℕ
+abbrev pub notedText : Bool → List ℕ
 notedText lost = cond lost (codes "line noted lost, ") []
 
 unfoldable pub silentText : Bool → No → List ℕ

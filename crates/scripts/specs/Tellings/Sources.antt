@@ -12,7 +12,7 @@ use Rattle.text.specs.Items.{refusalText, recordText}
 unfoldable pub keyText : ℕ → List ℕ
 keyText key = codes "key " ++ (key ∷ [])
 
-unfoldable pub panelText : Record → List ℕ
+abbrev pub panelText : Record → List ℕ
 panelText rec = codes "panel " ++ recordText rec
 
 unfoldable pub contentsText : No → List ℕ

@@ -1,8 +1,7 @@
 // Which call a row of the desk names.
 ghost use mathlib.Core.Path.{_≡_};
 ghost use Rattle.scripts.specs.Desks.Calls.{alterNumbered, callNumbered, callOf};
-use text::fields::word;
-use text::fields::word_place;
+use crate::meanings::named;
 
 // The calls that hear nothing.
 pub enum Quiet {
@@ -66,7 +65,7 @@ fn call_numbered(n: usize, field: usize) -> Call
 pub fn call_of(row: &[u8]) -> Call
     ensures { λ r. ⌜ r ≡ callOf (now (row .entry)) ⌝ }
 {
-    let n = word_place(b"start tick queue set key hear alter show", 8, word(row, 1));
-    let field = word_place(b"line good last kept queued key", 6, word(row, 2));
+    let n = named(row, 1, b"start tick queue set key hear alter show", 8);
+    let field = named(row, 2, b"line good last kept queued key", 6);
     call_numbered(n, field)
 }

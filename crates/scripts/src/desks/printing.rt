@@ -5,10 +5,11 @@ ghost use Rattle.desk.specs.Answers.{doneOf};
 ghost use Rattle.desk.specs.Heard.{toldOf};
 ghost use Rattle.scripts.specs.Desks.Printing.{numbersText, steppedText, heardText, alteredText, startsText, wantedText, waitingText, queueText, wholeText};
 use crate::printing::begin;
+use crate::printing::end;
 use crate::printing::first;
-use crate::printing::line;
 use crate::printing::number;
 use crate::printing::output;
+use crate::printing::put_behind;
 use crate::tellings::desks::put_heard;
 use crate::tellings::desks::put_outcome;
 use desk::answers::Outcome;
@@ -24,10 +25,15 @@ use text::putting::put_text;
 pub fn put_numbers(out: &mut [u8], at: usize, good: bool, last: u8, queued: usize) -> usize
     ensures { λ r. ⌜ (r, now (out .exit)) ≡ puts (numbersText good last queued) at (now (out .entry)) ⌝ }
 {
-    let a = line(out, at, good);
-    let b = number(out, a, b", last ", last as u64);
-    let c = number(out, b, b", queued ", queued as u64);
-    put_byte(out, c, b'\n')
+    end(
+        out,
+        at,
+        good,
+        b", last ",
+        last as u64,
+        b", queued ",
+        queued as u64,
+    )
 }
 
 // A call that hears nothing: what it answers, and the state's numbers.
@@ -110,8 +116,7 @@ fn put_waiting(out: &mut [u8], at: usize, waiting: Waiting) -> usize
     ensures { λ r. ⌜ (r, now (out .exit)) ≡ puts (waitingText waiting) at (now (out .entry)) ⌝ }
 {
     let rec = waiting.rec;
-    let a = put_text(out, at, b", waits ");
-    put_record(out, a, rec)
+    put_behind(out, at, b", waits ", rec)
 }
 
 // The records of the queue.

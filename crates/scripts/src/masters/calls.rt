@@ -1,8 +1,7 @@
 // Which call a row of the master names.
 ghost use mathlib.Core.Path.{_≡_};
 ghost use Rattle.scripts.specs.Masters.Calls.{alterNumbered, callNumbered, callOf};
-use text::fields::word;
-use text::fields::word_place;
+use crate::meanings::named;
 
 // The calls that may send.
 pub enum Sends {
@@ -58,7 +57,7 @@ fn call_numbered(n: usize, field: usize) -> Call
 pub fn call_of(row: &[u8]) -> Call
     ensures { λ r. ⌜ r ≡ callOf (now (row .entry)) ⌝ }
 {
-    let n = word_place(b"start tick offer hear alter show", 6, word(row, 1));
-    let field = word_place(b"line number count operation", 4, word(row, 2));
+    let n = named(row, 1, b"start tick offer hear alter show", 6);
+    let field = named(row, 2, b"line number count operation", 4);
     call_numbered(n, field)
 }

@@ -4,25 +4,30 @@ ghost use Rattle.text.specs.Putting.{puts};
 ghost use Rattle.master.specs.Answers.{toldOf};
 ghost use Rattle.scripts.specs.Masters.Printing.{numbersText, didText, alteredText, operationText, startsText, busyText, wholeText};
 use crate::printing::begin;
-use crate::printing::line;
+use crate::printing::end;
 use crate::printing::number;
 use crate::printing::output;
+use crate::printing::put_either;
 use crate::tellings::masters::put_answer;
 use master::answers::Answer;
 use master::state::Master;
 use records::records::Record;
 use text::items::put_record;
-use text::putting::put_byte;
 use text::putting::put_text;
 
 // What every row of the master ends with: line, number to send, sending count.
 pub fn put_numbers(out: &mut [u8], at: usize, good: bool, to_send: u8, count: u8) -> usize
     ensures { λ r. ⌜ (r, now (out .exit)) ≡ puts (numbersText good «to_send» count) at (now (out .entry)) ⌝ }
 {
-    let a = line(out, at, good);
-    let b = number(out, a, b", number ", to_send as u64);
-    let c = number(out, b, b", count ", count as u64);
-    put_byte(out, c, b'\n')
+    end(
+        out,
+        at,
+        good,
+        b", number ",
+        to_send as u64,
+        b", count ",
+        count as u64,
+    )
 }
 
 // What a call did, what was sent, and the state's numbers.
@@ -56,10 +61,7 @@ pub fn put_altered(out: &mut [u8], row: &[u8], good: bool, to_send: u8, count: u
 fn put_operation(out: &mut [u8], at: usize, operation: bool) -> usize
     ensures { λ r. ⌜ (r, now (out .exit)) ≡ puts (operationText operation) at (now (out .entry)) ⌝ }
 {
-    if operation {
-        return put_text(out, at, b", operation");
-    }
-    at
+    put_either(out, at, operation, b", operation", b"")
 }
 
 // The line, T0's start, and the key position by which T0 is.

@@ -6,6 +6,7 @@ ghost use Rattle.desk.specs.Answers.{doneOf};
 ghost use Rattle.desk.specs.Heard.{toldOf};
 ghost use Rattle.text.specs.Putting.{puts};
 ghost use Rattle.scripts.specs.Tellings.Desks.{doneText, notedText, silentText, faultText, repeatText, handledText, toldText};
+use crate::printing::put_either;
 use crate::tellings::sources::put_source;
 use desk::answers::Outcome;
 use desk::heard::Heard;
@@ -30,10 +31,7 @@ pub fn put_outcome(out: &mut [u8], at: usize, answer: Outcome) -> usize
 fn put_noted(out: &mut [u8], at: usize, lost: bool) -> usize
     ensures { λ r. ⌜ (r, now (out .exit)) ≡ puts (notedText lost) at (now (out .entry)) ⌝ }
 {
-    if lost {
-        return put_text(out, at, b"line noted lost, ");
-    }
-    at
+    put_either(out, at, lost, b"line noted lost, ", b"")
 }
 
 fn put_silent(out: &mut [u8], at: usize, lost: bool, refusal: Refusal) -> usize

@@ -4,10 +4,10 @@ ghost use Rattle.records.specs.Refusals.{refusalOf};
 ghost use Rattle.desk.specs.Replying.{originOf};
 ghost use Rattle.text.specs.Putting.{puts};
 ghost use Rattle.scripts.specs.Tellings.Sources.{keyText, panelText, contentsText, originText};
+use crate::printing::put_behind;
 use desk::replying::Source;
 use records::records::Record;
 use records::refusals::Refusal;
-use text::items::put_record;
 use text::items::put_refusal;
 use text::putting::put_byte;
 use text::putting::put_text;
@@ -22,8 +22,7 @@ fn put_key(out: &mut [u8], at: usize, key: u8) -> usize
 fn put_panel(out: &mut [u8], at: usize, rec: Record) -> usize
     ensures { λ r. ⌜ (r, now (out .exit)) ≡ puts (panelText rec) at (now (out .entry)) ⌝ }
 {
-    let a = put_text(out, at, b"panel ");
-    put_record(out, a, rec)
+    put_behind(out, at, b"panel ", rec)
 }
 
 fn put_contents(out: &mut [u8], at: usize, refusal: Refusal) -> usize

@@ -5,13 +5,10 @@ use borrow.Author.Needs.{needs}
 use Rattle.scripts.proofs.meanings.room.Statement.{statement}
 use Rattle.scripts.proofs.meanings.room.Tie as tie
 
-returns : tie.Need-returns
-unfolding roomOf
-returns c = rw (← (c .before .word-value .ensures), lt-ltb _ _ (c .if1 .taken))
-
-returns-2 : tie.Need-returns-2
-unfolding roomOf
-returns-2 c = rw (← (c .before .word-value .ensures), le-ltb _ _ (c .if1 .left))
-
 pub room-spec : {M : Type 1} → statement M
-room-spec = tie.close (tie.spec (λ c κs. search needs) (λ c. search needs) returns returns-2)
+unfolding roomOf
+room-spec =
+    tie.close
+    (tie.spec
+    (λ c κs. search needs) (λ c. search needs) (λ c. rw (← (c .before .word-value .ensures), lt-ltb _ _ (c .if1 .taken)))
+    (λ c. rw (← (c .before .word-value .ensures), le-ltb _ _ (c .if1 .left))))

@@ -5,11 +5,9 @@ use borrow.Author.Needs.{needs}
 use Rattle.scripts.proofs.printing.begin.Statement.{statement}
 use Rattle.scripts.proofs.printing.begin.Tie as tie
 
-returns : tie.Need-returns
-unfolding beganText
-returns c = search then
-
 pub begin-spec : {M : Type 1} → statement M
+unfolding beganText
 begin-spec =
     tie.close
-    (tie.spec (λ c κs. search needs) (λ c. search needs) (λ c κs. search needs) (λ c. search needs) returns)
+    (tie.spec
+    (λ c κs. search needs) (λ c. search needs) (λ c κs. search needs) (λ c. search needs) (λ c. search then))

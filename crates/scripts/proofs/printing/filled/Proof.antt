@@ -13,37 +13,13 @@ Inv-loop bytes n₀ n = filledIn n bytes ≡ filledOf bytes
 abbrev μ-loop : tie.MeasureT-loop
 μ-loop bytes n₀ n = n
 
-loop-holds : tie.Need-loop-holds Inv-loop μ-loop
-unfolding filledOf
-loop-holds c = refl
-
-sub-byte-at : tie.Need-sub-byte-at Inv-loop μ-loop
-sub-byte-at c = search needs
-
-byte-at-requires : tie.Need-byte-at-requires Inv-loop μ-loop
-byte-at-requires c κs = search needs
-
-returns : tie.Need-returns Inv-loop μ-loop
-returns c =
-    let l = c .before .before .before .loop in
-    last-here _ (l .n) _ (omega arith) (c .before .byte-at .ensures) (c .if1 .taken) ∙ l .inv
-
-sub-n : tie.Need-sub-n Inv-loop μ-loop
-sub-n c = search needs
-
-loop-less : tie.Need-loop-less Inv-loop μ-loop
-loop-less c = search needs
-
-loop-again : tie.Need-loop-again Inv-loop μ-loop
-loop-again c =
-    let l = c .before .before .before .loop in
-    passed-on _ (l .n) _ (omega arith) (c .before .byte-at .ensures) (c .if1 .left) ∙ l .inv
-
-returns-2 : tie.Need-returns-2 Inv-loop μ-loop
-returns-2 c = let l = c .before .loop in none-here _ (l .n) (omega arith) ∙ l .inv
-
 pub filled-spec : {M : Type 1} → statement M
+unfolding filledOf
 filled-spec =
     tie.close
     (tie.spec
-    Inv-loop μ-loop loop-holds sub-byte-at byte-at-requires returns sub-n loop-less loop-again returns-2)
+    Inv-loop μ-loop (λ c. refl) (λ c. search needs) (λ c κs. search needs)
+    (λ c. let l = c .before .before .before .loop in last-here _ (l .n) _ (omega arith) (c .before .byte-at .ensures) (c .if1 .taken) ∙ l .inv)
+    (λ c. search needs) (λ c. search needs)
+    (λ c. let l = c .before .before .before .loop in passed-on _ (l .n) _ (omega arith) (c .before .byte-at .ensures) (c .if1 .left) ∙ l .inv)
+    (λ c. let l = c .before .loop in none-here _ (l .n) (omega arith) ∙ l .inv))

@@ -5,9 +5,6 @@ use borrow.Author.Needs.{needs}
 use Rattle.scripts.proofs.printing.number.Statement.{statement}
 use Rattle.scripts.proofs.printing.number.Tie as tie
 
-returns : tie.Need-returns
-unfolding numberText
-returns c = search then
-
 pub number-spec : {M : Type 1} → statement M
-number-spec = tie.close (tie.spec (λ c κs. search needs) (λ c κs. search needs) (λ c. search needs) returns)
+unfolding numberText
+number-spec = tie.close (tie.spec (λ c κs. search needs) (λ c κs. search needs) (λ c. search needs) (λ c. search then))

@@ -5,12 +5,9 @@ use borrow.Author.Needs.{needs}
 use Rattle.scripts.proofs.printing.put_unknown.Statement.{statement}
 use Rattle.scripts.proofs.printing.put_unknown.Tie as tie
 
-returns : tie.Need-returns
-unfolding unknownText
-returns c = search then
-
 pub put-unknown-spec : {M : Type 1} → statement M
+unfolding unknownText
 put-unknown-spec =
     tie.close
     (tie.spec
-    (λ c κs. search needs) (λ c. search needs) (λ c κs. search needs) (λ c κs. search needs) (λ c. search needs) returns)
+    (λ c κs. search needs) (λ c. search needs) (λ c κs. search needs) (λ c κs. search needs) (λ c. search needs) (λ c. search then))

@@ -5,12 +5,9 @@ use borrow.Author.Needs.{needs}
 use Rattle.scripts.proofs.desks.printing.put_hearing.Statement.{statement}
 use Rattle.scripts.proofs.desks.printing.put_hearing.Tie as tie
 
-returns : tie.Need-returns
-unfolding heardText
-returns c = search then
-
 pub put-hearing-spec : {M : Type 1} → statement M
+unfolding heardText
 put-hearing-spec =
     tie.close
     (tie.spec
-    (λ c κs. search needs) (λ c κs. search needs) (λ c κs. search needs) (λ c κs. search needs) (λ c. search needs) returns)
+    (λ c κs. search needs) (λ c κs. search needs) (λ c κs. search needs) (λ c κs. search needs) (λ c. search needs) (λ c. search then))

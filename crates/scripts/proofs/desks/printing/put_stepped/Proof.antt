@@ -5,11 +5,9 @@ use borrow.Author.Needs.{needs}
 use Rattle.scripts.proofs.desks.printing.put_stepped.Statement.{statement}
 use Rattle.scripts.proofs.desks.printing.put_stepped.Tie as tie
 
-returns : tie.Need-returns
-unfolding steppedText
-returns c = search then
-
 pub put-stepped-spec : {M : Type 1} → statement M
+unfolding steppedText
 put-stepped-spec =
     tie.close
-    (tie.spec (λ c κs. search needs) (λ c κs. search needs) (λ c κs. search needs) (λ c. search needs) returns)
+    (tie.spec
+    (λ c κs. search needs) (λ c κs. search needs) (λ c κs. search needs) (λ c. search needs) (λ c. search then))

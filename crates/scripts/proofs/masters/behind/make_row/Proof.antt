@@ -1,6 +1,6 @@
 -- `make_row` lends as much room as the row gives. Assumes nothing.
-use Rattle.scripts.proofs.Makes.{makes}
-use Rattle.scripts.proofs.Meant.{room-most}
+use Rattle.scripts.proofs.Meant.{within, lent}
+use Rattle.scripts.specs.Masters.Behind.{makeRow}
 use lib.Seq.{length-take-le}
 use mathlib.Core.Path.{sym}
 use native.Mathlib.Omega.{arith}
@@ -8,23 +8,11 @@ use borrow.Author.Needs.{needs}
 use Rattle.scripts.proofs.masters.behind.make_row.Statement.{statement}
 use Rattle.scripts.proofs.masters.behind.make_row.Tie as tie
 
-array-borrow-prefix-sent : tie.Need-array-borrow-prefix-sent
-array-borrow-prefix-sent c =
-    let room = c .room .ensures in
-    let most = room-most (c .before .before .before .args .row .now) in
-    omega (arith, room, most)
-
-slice-aggregate-make-in : tie.Need-slice-aggregate-make-in
-slice-aggregate-make-in c =
-    let room = c .before .room .ensures in
-    let most = room-most (c .before .before .before .before .args .row .now) in
-    sym (length-take-le _ _ (omega (arith, room, most)))
-
-returns : tie.Need-returns
-returns c = makes _ _ _ _ _ _ (c .before .before .before .before .before .before .room .ensures) (c .before .before .before .make-in .ensures)
-
 pub make-row-spec : {M : Type 1} → statement M
+unfolding makeRow
 make-row-spec =
     tie.close
     (tie.spec
-    (λ c κs. search needs) array-borrow-prefix-sent slice-aggregate-make-in (λ c κs. search needs) (λ c. search needs) returns)
+    (λ c κs. search needs) (λ c. omega (arith, within _ (c .room .ensures)))
+    (λ c. sym (length-take-le _ _ (omega (arith, within _ (c .before .room .ensures))))) (λ c κs. search needs) (λ c. search needs)
+    (λ c. let m = c .before .before .before in rw (m .make-in .ensures, lent _ (m .before .before .before .room .ensures))))

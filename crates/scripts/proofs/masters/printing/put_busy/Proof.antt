@@ -7,22 +7,14 @@ use borrow.Author.Needs.{needs}
 use Rattle.scripts.proofs.masters.printing.put_busy.Statement.{statement}
 use Rattle.scripts.proofs.masters.printing.put_busy.Tie as tie
 
-returns : tie.Need-returns
-unfolding busyText puts
-returns c = rw (c .if1 .taken)
-
 returns-2 : tie.Need-returns-2
 unfolding busyText
-returns-2 c =
-    let a = c .before .before in
-    let b = a .before .before .before .before in
-    let d = b .before .before .before .before .before in
-    let i = c .before .before .before .before .before .before .before .before .before .before .before .before .before .before .if1 .left in
-    rw (ne-eqb _ _ i) (then _ _ _ _ _ _ _ _ (d .number .ensures) (then _ _ _ _ _ _ _ _ (b .put-text .ensures) (a .put-record .ensures)))
+returns-2 c = rw (ne-eqb _ _ (c .before .before .before .before .before .before .before .before .before .before .before .before .before .before .if1 .left)) (search then)
 
 pub put-busy-spec : {M : Type 1} → statement M
+unfolding busyText puts
 put-busy-spec =
     tie.close
     (tie.spec
-    returns (λ c. search needs) (λ c κs. search needs) (λ c. search needs) (λ c κs. search needs) (λ c κs. search needs) (λ c. search needs)
-    returns-2)
+    (λ c. rw (c .if1 .taken)) (λ c. search needs) (λ c κs. search needs) (λ c. search needs) (λ c κs. search needs) (λ c κs. search needs)
+    (λ c. search needs) returns-2)

@@ -5,12 +5,9 @@ use borrow.Author.Needs.{needs}
 use Rattle.scripts.proofs.masters.printing.put_did.Statement.{statement}
 use Rattle.scripts.proofs.masters.printing.put_did.Tie as tie
 
-returns : tie.Need-returns
-unfolding didText
-returns c = search then
-
 pub put-did-spec : {M : Type 1} → statement M
+unfolding didText
 put-did-spec =
     tie.close
     (tie.spec
-    (λ c κs. search needs) (λ c κs. search needs) (λ c κs. search needs) (λ c κs. search needs) (λ c. search needs) returns)
+    (λ c κs. search needs) (λ c κs. search needs) (λ c κs. search needs) (λ c κs. search needs) (λ c. search needs) (λ c. search then))

@@ -5,12 +5,9 @@ use borrow.Author.Needs.{needs}
 use Rattle.scripts.proofs.masters.printing.put_whole.Statement.{statement}
 use Rattle.scripts.proofs.masters.printing.put_whole.Tie as tie
 
-returns : tie.Need-returns
-unfolding wholeText
-returns c = search then
-
 pub put-whole-spec : {M : Type 1} → statement M
+unfolding wholeText
 put-whole-spec =
     tie.close
     (tie.spec
-    (λ c κs. search needs) (λ c κs. search needs) (λ c κs. search needs) (λ c κs. search needs) (λ c. search needs) returns)
+    (λ c κs. search needs) (λ c κs. search needs) (λ c κs. search needs) (λ c κs. search needs) (λ c. search needs) (λ c. search then))

@@ -5,12 +5,9 @@ use borrow.Author.Needs.{needs}
 use Rattle.scripts.proofs.tellings.desks.put_fault.Statement.{statement}
 use Rattle.scripts.proofs.tellings.desks.put_fault.Tie as tie
 
-returns : tie.Need-returns
-unfolding faultText
-returns c = search then
-
 pub put-fault-spec : {M : Type 1} → statement M
+unfolding faultText
 put-fault-spec =
     tie.close
     (tie.spec
-    (λ c κs. search needs) (λ c. search needs) (λ c κs. search needs) (λ c κs. search needs) (λ c. search needs) returns)
+    (λ c κs. search needs) (λ c. search needs) (λ c κs. search needs) (λ c κs. search needs) (λ c. search needs) (λ c. search then))

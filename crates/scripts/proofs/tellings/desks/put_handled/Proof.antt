@@ -5,13 +5,10 @@ use borrow.Author.Needs.{needs}
 use Rattle.scripts.proofs.tellings.desks.put_handled.Statement.{statement}
 use Rattle.scripts.proofs.tellings.desks.put_handled.Tie as tie
 
-returns : tie.Need-returns
-unfolding handledText
-returns c = search then
-
 pub put-handled-spec : {M : Type 1} → statement M
+unfolding handledText
 put-handled-spec =
     tie.close
     (tie.spec
     (λ c κs. search needs) (λ c. search needs) (λ c κs. search needs) (λ c κs. search needs) (λ c. search needs) (λ c κs. search needs)
-    (λ c κs. search needs) (λ c. search needs) returns)
+    (λ c κs. search needs) (λ c. search needs) (λ c. search then))

@@ -5,11 +5,9 @@ use borrow.Author.Needs.{needs}
 use Rattle.scripts.proofs.tellings.desks.put_repeat.Statement.{statement}
 use Rattle.scripts.proofs.tellings.desks.put_repeat.Tie as tie
 
-returns : tie.Need-returns
-unfolding repeatText
-returns c = search then
-
 pub put-repeat-spec : {M : Type 1} → statement M
+unfolding repeatText
 put-repeat-spec =
     tie.close
-    (tie.spec (λ c. search needs) (λ c κs. search needs) (λ c κs. search needs) (λ c. search needs) returns)
+    (tie.spec
+    (λ c. search needs) (λ c κs. search needs) (λ c κs. search needs) (λ c. search needs) (λ c. search then))

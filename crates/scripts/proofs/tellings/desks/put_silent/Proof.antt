@@ -5,12 +5,9 @@ use borrow.Author.Needs.{needs}
 use Rattle.scripts.proofs.tellings.desks.put_silent.Statement.{statement}
 use Rattle.scripts.proofs.tellings.desks.put_silent.Tie as tie
 
-returns : tie.Need-returns
-unfolding silentText
-returns c = search then
-
 pub put-silent-spec : {M : Type 1} → statement M
+unfolding silentText
 put-silent-spec =
     tie.close
     (tie.spec
-    (λ c κs. search needs) (λ c. search needs) (λ c κs. search needs) (λ c κs. search needs) (λ c. search needs) returns)
+    (λ c κs. search needs) (λ c. search needs) (λ c κs. search needs) (λ c κs. search needs) (λ c. search needs) (λ c. search then))

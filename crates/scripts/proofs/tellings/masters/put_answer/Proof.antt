@@ -3,53 +3,17 @@ use borrow.Author.Needs.{needs}
 use Rattle.scripts.proofs.tellings.masters.put_answer.Statement.{statement}
 use Rattle.scripts.proofs.tellings.masters.put_answer.Tie as tie
 
-returns : tie.Need-returns
-returns c =
-    let a = c .before .before in
-    let b = a .before .before .before in
-    rw (b .answer .given .1) (a .put-refusal .ensures)
-
-returns-2 : tie.Need-returns-2
-returns-2 c =
-    let a = c .before .before in
-    let b = a .before .before .before in
-    rw (b .enum-told .given .1) (a .put-text .ensures)
-
-returns-3 : tie.Need-returns-3
-returns-3 c =
-    let a = c .before .before in
-    let b = a .before .before .before in
-    rw (b .answer2 .given .1) (a .put-sent .ensures)
-
-returns-4 : tie.Need-returns-4
-returns-4 c =
-    let a = c .before .before in
-    let b = a .before .before .before in
-    rw (b .answer3 .given .1) (a .put-answered .ensures)
-
-returns-5 : tie.Need-returns-5
-returns-5 c =
-    let a = c .before .before in
-    let b = a .before .before .before in
-    rw (b .answer4 .given .1) (a .put-other-kind .ensures)
-
-returns-6 : tie.Need-returns-6
-returns-6 c =
-    let a = c .before .before in
-    let b = a .before .before .before in
-    rw (b .answer5 .given .1) (a .put-given-up .ensures)
-
-returns-7 : tie.Need-returns-7
-returns-7 c =
-    let a = c .before .before in
-    let b = a .before .before .before in
-    rw (b .answer6 .given .1) (a .put-ignored .ensures)
-
 pub put-answer-spec : {M : Type 1} → statement M
 put-answer-spec =
     tie.close
     (tie.spec
     (λ c. search needs) (λ c κs. search needs) (λ c. search needs) (λ c. search needs) (λ c κs. search needs) (λ c. search needs)
     (λ c κs. search needs) (λ c. search needs) (λ c κs. search needs) (λ c. search needs) (λ c κs. search needs) (λ c. search needs)
-    (λ c κs. search needs) (λ c. search needs) (λ c κs. search needs) (λ c. search needs) returns (λ c. search needs) returns-2 (λ c. search needs)
-    returns-3 (λ c. search needs) returns-4 (λ c. search needs) returns-5 (λ c. search needs) returns-6 (λ c. search needs) returns-7)
+    (λ c κs. search needs) (λ c. search needs) (λ c κs. search needs) (λ c. search needs)
+    (λ c. rw (c .before .before .before .before .before .answer .given .1) (c .before .before .put-refusal .ensures)) (λ c. search needs)
+    (λ c. rw (c .before .before .before .before .before .enum-told .given .1) (c .before .before .put-text .ensures)) (λ c. search needs)
+    (λ c. rw (c .before .before .before .before .before .answer2 .given .1) (c .before .before .put-sent .ensures)) (λ c. search needs)
+    (λ c. rw (c .before .before .before .before .before .answer3 .given .1) (c .before .before .put-answered .ensures)) (λ c. search needs)
+    (λ c. rw (c .before .before .before .before .before .answer4 .given .1) (c .before .before .put-other-kind .ensures)) (λ c. search needs)
+    (λ c. rw (c .before .before .before .before .before .answer5 .given .1) (c .before .before .put-given-up .ensures)) (λ c. search needs)
+    (λ c. rw (c .before .before .before .before .before .answer6 .given .1) (c .before .before .put-ignored .ensures)))

@@ -5,13 +5,10 @@ use borrow.Author.Needs.{needs}
 use Rattle.scripts.proofs.tellings.masters.put_answered.Statement.{statement}
 use Rattle.scripts.proofs.tellings.masters.put_answered.Tie as tie
 
-returns : tie.Need-returns
-unfolding answeredText
-returns c = search then
-
 pub put-answered-spec : {M : Type 1} → statement M
+unfolding answeredText
 put-answered-spec =
     tie.close
     (tie.spec
     (λ c. search needs) (λ c κs. search needs) (λ c κs. search needs) (λ c. search needs) (λ c κs. search needs) (λ c κs. search needs)
-    (λ c. search needs) returns)
+    (λ c. search needs) (λ c. search then))

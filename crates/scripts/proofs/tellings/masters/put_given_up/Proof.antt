@@ -5,12 +5,9 @@ use borrow.Author.Needs.{needs}
 use Rattle.scripts.proofs.tellings.masters.put_given_up.Statement.{statement}
 use Rattle.scripts.proofs.tellings.masters.put_given_up.Tie as tie
 
-returns : tie.Need-returns
-unfolding givenUpText
-returns c = search then
-
 pub put-given-up-spec : {M : Type 1} → statement M
+unfolding givenUpText
 put-given-up-spec =
     tie.close
     (tie.spec
-    (λ c. search needs) (λ c κs. search needs) (λ c κs. search needs) (λ c κs. search needs) (λ c. search needs) returns)
+    (λ c. search needs) (λ c κs. search needs) (λ c κs. search needs) (λ c κs. search needs) (λ c. search needs) (λ c. search then))

@@ -5,11 +5,9 @@ use borrow.Author.Needs.{needs}
 use Rattle.scripts.proofs.tellings.masters.put_ignored.Statement.{statement}
 use Rattle.scripts.proofs.tellings.masters.put_ignored.Tie as tie
 
-returns : tie.Need-returns
-unfolding ignoredText
-returns c = search then
-
 pub put-ignored-spec : {M : Type 1} → statement M
+unfolding ignoredText
 put-ignored-spec =
     tie.close
-    (tie.spec (λ c. search needs) (λ c κs. search needs) (λ c κs. search needs) (λ c. search needs) returns)
+    (tie.spec
+    (λ c. search needs) (λ c κs. search needs) (λ c κs. search needs) (λ c. search needs) (λ c. search then))

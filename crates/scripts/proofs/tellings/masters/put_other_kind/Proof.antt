@@ -5,13 +5,10 @@ use borrow.Author.Needs.{needs}
 use Rattle.scripts.proofs.tellings.masters.put_other_kind.Statement.{statement}
 use Rattle.scripts.proofs.tellings.masters.put_other_kind.Tie as tie
 
-returns : tie.Need-returns
-unfolding otherKindText
-returns c = search then
-
 pub put-other-kind-spec : {M : Type 1} → statement M
+unfolding otherKindText
 put-other-kind-spec =
     tie.close
     (tie.spec
     (λ c. search needs) (λ c κs. search needs) (λ c κs. search needs) (λ c. search needs) (λ c κs. search needs) (λ c κs. search needs)
-    (λ c. search needs) returns)
+    (λ c. search needs) (λ c. search then))

@@ -3,20 +3,10 @@ use borrow.Author.Needs.{needs}
 use Rattle.scripts.proofs.tellings.masters.put_reading.Statement.{statement}
 use Rattle.scripts.proofs.tellings.masters.put_reading.Tie as tie
 
-returns : tie.Need-returns
-returns c =
-    let a = c .before .before in
-    let b = a .before .before .before in
-    rw (b .reading .given .1) (a .put-record .ensures)
-
-returns-2 : tie.Need-returns-2
-returns-2 c =
-    let a = c .before .before in
-    let b = a .before .before .before in
-    rw (b .reading2 .given .1) (a .put-refusal .ensures)
-
 pub put-reading-spec : {M : Type 1} → statement M
 put-reading-spec =
     tie.close
     (tie.spec
-    (λ c. search needs) (λ c κs. search needs) (λ c. search needs) (λ c κs. search needs) (λ c. search needs) returns (λ c. search needs) returns-2)
+    (λ c. search needs) (λ c κs. search needs) (λ c. search needs) (λ c κs. search needs) (λ c. search needs)
+    (λ c. rw (c .before .before .before .before .before .reading .given .1) (c .before .before .put-record .ensures)) (λ c. search needs)
+    (λ c. rw (c .before .before .before .before .before .reading2 .given .1) (c .before .before .put-refusal .ensures)))

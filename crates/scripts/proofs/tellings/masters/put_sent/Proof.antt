@@ -5,12 +5,10 @@ use borrow.Author.Needs.{needs}
 use Rattle.scripts.proofs.tellings.masters.put_sent.Statement.{statement}
 use Rattle.scripts.proofs.tellings.masters.put_sent.Tie as tie
 
-returns : tie.Need-returns
-unfolding sentText
-returns c = search then
-
 pub put-sent-spec : {M : Type 1} → statement M
+unfolding sentText
 put-sent-spec =
     tie.close
     (tie.spec
-    (λ c κs. search needs) (λ c κs. search needs) (λ c. search needs) (λ c κs. search needs) (λ c κs. search needs) (λ c. search needs) returns)
+    (λ c κs. search needs) (λ c κs. search needs) (λ c. search needs) (λ c κs. search needs) (λ c κs. search needs) (λ c. search needs)
+    (λ c. search then))

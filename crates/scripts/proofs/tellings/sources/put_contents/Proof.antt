@@ -5,11 +5,9 @@ use borrow.Author.Needs.{needs}
 use Rattle.scripts.proofs.tellings.sources.put_contents.Statement.{statement}
 use Rattle.scripts.proofs.tellings.sources.put_contents.Tie as tie
 
-returns : tie.Need-returns
-unfolding contentsText
-returns c = search then
-
 pub put-contents-spec : {M : Type 1} → statement M
+unfolding contentsText
 put-contents-spec =
     tie.close
-    (tie.spec (λ c. search needs) (λ c κs. search needs) (λ c κs. search needs) (λ c. search needs) returns)
+    (tie.spec
+    (λ c. search needs) (λ c κs. search needs) (λ c κs. search needs) (λ c. search needs) (λ c. search then))

@@ -5,11 +5,9 @@ use borrow.Author.Needs.{needs}
 use Rattle.scripts.proofs.tellings.sources.put_key.Statement.{statement}
 use Rattle.scripts.proofs.tellings.sources.put_key.Tie as tie
 
-returns : tie.Need-returns
-unfolding keyText
-returns c = search then
-
 pub put-key-spec : {M : Type 1} → statement M
+unfolding keyText
 put-key-spec =
     tie.close
-    (tie.spec (λ c. search needs) (λ c κs. search needs) (λ c κs. search needs) (λ c. search needs) returns)
+    (tie.spec
+    (λ c. search needs) (λ c κs. search needs) (λ c κs. search needs) (λ c. search needs) (λ c. search then))
