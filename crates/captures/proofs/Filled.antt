@@ -13,8 +13,9 @@ use Rattle.cutting.specs.declared.search.Span.the-variants.{Found, Nothing}
 use Rattle.cutting.specs.Search.{spanOf}
 use Rattle.captures.specs.declared.part.Listed.{Listed}
 use Rattle.text.specs.Putting.{placed}
-use Rattle.captures.proofs.Puts.{put-length, put-take, put-drop}
-use Rattle.captures.specs.Listing.{wrapped, lineText, lineRoom}
+use Rattle.text.proofs.Puts.{put-length, put-take, put-drop}
+use Rattle.pieces.specs.Counts.{wrapped}
+use Rattle.captures.specs.Listing.{lineText, lineRoom}
 use Rattle.captures.specs.Part.{spanning, spansOf, lineAt, linesIn, linesOf, stopped, listedIn, listPart}
 use Rattle.captures.proofs.Spans.{found-within, spans-step}
 use Rattle.captures.specs.Whole.{lastEnd, nextOrdinal}

@@ -1,29 +1,56 @@
--- A listing that goes on: what it has written and what it holds make up the listing of all that was read (rule P5). Assumes nothing.
+-- A turn that lists puts lines, and the lines then left are the rest of those that were left (rule P5). Assumes nothing.
 use mathlib.Core.Path.{_≡_, refl, sym, ap, ap₂, _∙_}
 use mathlib.Core.Bool.{Bool, true, false, cond}
 use mathlib.Core.List.{List, [], _++_, append-nil, append-assoc}
-use Prim.Native.Nat.{ℕ, _+_, _≤_, _<_}
+use Prim.Native.Nat.{ℕ, _+_, _≤_}
 use native.Mathlib.Omega.{arith}
+use lib.Dec.{eqb}
 use lib.ListN.{length, take, drop}
 use lib.Seq.{length-take-le}
+use borrow.Author.Tests.{ne-eqb}
+use Rattle.laws.proofs.Passes.{from-bounds}
 use Rattle.characters.specs.Marks.{unfinished}
+use Rattle.forms.specs.Lines.{isLine}
 use Rattle.records.specs.Answers.{written}
-use Rattle.captures.specs.Listing.{wrapped, lineRoom}
+use Rattle.pieces.specs.Counts.{wrapped}
+use Rattle.pieces.specs.Tails.{tailPut}
+use Rattle.pieces.specs.Turns.{Turned}
+use Rattle.pieces.specs.declared.wants.Wants.the-variants.{Read}
+use Rattle.pieces.proofs.Kept.{kept-front, kept-within}
+use Rattle.pieces.proofs.Runs.{Goes}
+use Rattle.captures.specs.Listing.{lineRoom}
 use Rattle.captures.specs.declared.part.Listed.{Listed}
 use Rattle.captures.specs.declared.lister.Lister.{Lister}
-use Rattle.captures.specs.declared.lister.Wants.the-variants.{Read, Again, End}
 use Rattle.captures.specs.Part.{spansOf, linesIn, linesOf, keptFrom}
-use Rattle.pieces.specs.Tails.{tailPut}
-use Rattle.pieces.proofs.Kept.{kept-front, kept-within}
+use Rattle.captures.specs.Captures.{listingOf}
 use Rattle.captures.specs.Whole.{linesLeft}
-use Rattle.captures.specs.Turn.{Turned, again, behind, carried, carriedOn}
-use Rattle.captures.specs.Runs.{frontOf}
+use Rattle.captures.specs.Lister.{atFirst}
+use Rattle.captures.specs.Turn.{again, behind, carried, carriedOn, listing}
 use Rattle.captures.proofs.Filled.{Fills, part-fills}
 use Rattle.captures.proofs.Whole.{in-two}
 
--- what is written, and the lines left of the bytes held and any bytes behind them, are the lines of all bytes behind the digit
-abbrev pub Going : ℕ → ℕ → ℕ → ℕ → List ℕ → List ℕ → List ℕ → Type 0
-Going line ordinal base place s body w = (b : List ℕ) → w ++ linesOf line ordinal base (s ++ b) place ≡ linesOf line 1 0 (body ++ b) 0
+-- what is left to be written: before the line is known the listing of all bytes, and then the lines of the bytes at hand
+unfoldable pub left : Lister → List ℕ → List ℕ
+left m s = cond (eqb (m .line) 0) (listingOf s) (linesOf (m .line) (m .ordinal) (m .base) s (m .next))
+
+-- a line is not 0
+pub known-line : (line : ℕ) → isLine line ≡ true → (line ≡ 0 → ⊥)
+known-line line h z = let k = from-bounds 1 3 line h in omega arith
+
+pub left-lines : (m : Lister) (s : List ℕ) → isLine (m .line) ≡ true → left m s ≡ linesOf (m .line) (m .ordinal) (m .base) s (m .next)
+unfolding left
+left-lines m s h = rw (ne-eqb (m .line) 0 (known-line (m .line) h))
+
+-- a listing whose line is known goes on among the bytes held; where bytes are wanted, it holds no telegram, and few bytes
+pub record Lists (m : Lister) (held : List ℕ) : Type 0 where
+  pub known : isLine (m .line) ≡ true
+  pub place : m .next ≤ m .held
+  pub idle : m .wants ≡ Read → (linesOf (m .line) (m .ordinal) (m .base) held (m .next) ≡ []) × (m .held ≤ unfinished)
+
+-- nothing is read yet, or the line is known
+pub data Fits (m : Lister) (held : List ℕ) : Type 0 where
+  opening : m ≡ atFirst → Fits m held
+  lists : Lists m held → Fits m held
 
 -- one listing of bytes
 module _ (line base : ℕ) (s : List ℕ) (place ordinal : ℕ) (out : List ℕ) (h : place ≤ length s) (r : Listed) (x : List ℕ)
@@ -60,71 +87,63 @@ module _ (line base : ℕ) (s : List ℕ) (place ordinal : ℕ) (out : List ℕ)
       kept-none : linesOf line (r .ordinal) (wrapped (base + keptFrom (r .next) n)) (drop (keptFrom (r .next) n) s) 0 ≡ []
       kept-none = sym (rw (append-nil s, append-nil (drop (keptFrom (r .next) n) s)) at (kept-lines [])) ∙ none-left
 
--- what a turn that lists leaves
-pub record Went (t : Turned) (line : ℕ) (body w out : List ℕ) : Type 0 where
-  pub named : t .0 .line ≡ line
-  pub place : t .0 .next ≤ t .0 .held
-  pub held : t .0 .held ≤ length (t .1 .1 .0)
-  pub on : Going line (t .0 .ordinal) (t .0 .base) (t .0 .next) (take (t .0 .held) (t .1 .1 .0)) body (w ++ frontOf (t .1 .0) (t .1 .1 .1))
-  pub idle : t .0 .wants ≡ Read → (linesOf line (t .0 .ordinal) (t .0 .base) (take (t .0 .held) (t .1 .1 .0)) (t .0 .next) ≡ []) × (t .0 .held ≤ unfinished)
-  pub going : t .0 .wants ≡ End → ⊥
-  pub again : t .0 .wants ≡ Again → lineRoom ≤ length out → 0 < length (frontOf (t .1 .0) (t .1 .1 .1))
-
-module _ (m : Lister) (line : ℕ) (buf : List ℕ) (n : ℕ) (out body w : List ℕ) (h : n ≤ length buf) (l : m .next ≤ n)
-    (g : Going line (m .ordinal) (m .base) (m .next) (take n buf) body w) where
+-- n bytes are listed on a line, of which all lines are left
+module _ (m : Lister) (line : ℕ) (buf : List ℕ) (n got : ℕ) (out : List ℕ) (h : n ≤ length buf) (l : m .next ≤ n) (room : lineRoom ≤ length out) (known : isLine line ≡ true)
+    (all : (b : List ℕ) → left m (take n buf ++ b) ≡ linesOf line (m .ordinal) (m .base) (take n buf ++ b) (m .next)) (some : m .wants ≡ Read → got ≡ 0 → ⊥) where
   size : length (take n buf) ≡ n
   size = length-take-le n buf h
 
+  abbrev GoesOn : Turned Lister → Type 0
+  GoesOn t = Goes listing left Fits m (take n buf) got t
+
   module _ (r : Listed) (x : List ℕ) (f : Fills line (m .base) (take n buf) (spansOf (take n buf) (m .next)) (m .next) (m .ordinal) 0 out r x) where
-    -- the lines so far
-    so-far : (b y : List ℕ) → y ≡ linesOf line (r .ordinal) (m .base) (take n buf ++ b) (r .next) → (w ++ take (r .filled) x) ++ y ≡ linesOf line 1 0 (body ++ b) 0
-    so-far b y e =
-        append-assoc w (take (r .filled) x) y
-        ∙ ap (λ (z : List ℕ). w ++ (take (r .filled) x ++ z)) e
-        ∙ ap (λ (z : List ℕ). w ++ z) (all-lines line (m .base) (take n buf) (m .next) (m .ordinal) out (omega (arith, size)) r x f b)
-        ∙ g b
+    within : m .next ≤ length (take n buf)
+    within = omega (arith, size)
+
+    -- the lines put, and those left
+    put-and-left : (b y : List ℕ) → y ≡ linesOf line (r .ordinal) (m .base) (take n buf ++ b) (r .next) → take (r .filled) x ++ y ≡ left m (take n buf ++ b)
+    put-and-left b y e =
+        ap (λ (z : List ℕ). take (r .filled) x ++ z) e ∙ all-lines line (m .base) (take n buf) (m .next) (m .ordinal) out within r x f b ∙ sym (all b)
 
     reached : r .next ≤ n
-    reached = omega (arith, f .within (omega (arith, size)), size)
+    reached = omega (arith, f .within within, size)
 
     abbrev k : ℕ
     k = keptFrom (r .next) n
 
-    behind-all : r .done ≡ true → Went (behind m line (r .ordinal) k n, (written (r .filled), (tailPut k n buf .1, x))) line body w out
+    behind-all : r .done ≡ true → GoesOn (behind m line (r .ordinal) k n, (written (r .filled), (tailPut k n buf .1, x)))
     behind-all d =
         let i : keptFrom (r .next) n ≤ n = omega (arith, reached) in
         let e = kept-front (keptFrom (r .next) n) n buf i h in
         record {
-          named = refl;
-          place = omega arith;
           held = kept-within (keptFrom (r .next) n) n buf i h;
-          on = λ b. so-far b _ (rw e (sym (kept-lines line (m .base) (take n buf) (m .next) (m .ordinal) out (omega (arith, size)) r x f d n size b)));
-          idle = λ q. (rw e (kept-none line (m .base) (take n buf) (m .next) (m .ordinal) out (omega (arith, size)) r x f d n size), omega arith);
+          rest = λ b. put-and-left b _ (left-lines _ _ known ∙ rw e (sym (kept-lines line (m .base) (take n buf) (m .next) (m .ordinal) out within r x f d n size b)));
+          fits = lists (record { known = known; place = omega arith; idle = λ q. (rw e (kept-none line (m .base) (take n buf) (m .next) (m .ordinal) out within r x f d n size), omega arith) });
+          some = some;
           going = λ q. let z : _≡_ {A = ℕ} 0 1 = cc in omega arith;
           again = λ q. let z : _≡_ {A = ℕ} 0 1 = cc in let y : ⊥ = omega arith in absurd y;
         }
 
-    among : r .done ≡ false → Went (again m line r n, (written (r .filled), (buf, x))) line body w out
+    among : r .done ≡ false → GoesOn (again m line r n, (written (r .filled), (buf, x)))
     among d =
         record {
-          named = refl;
-          place = reached;
           held = h;
-          on = λ b. so-far b _ refl;
-          idle = λ q. let z : _≡_ {A = ℕ} 0 1 = cc in let y : ⊥ = omega arith in absurd y;
+          rest = λ b. put-and-left b _ (left-lines _ _ known);
+          fits = lists (record { known = known; place = reached; idle = λ q. let z : _≡_ {A = ℕ} 0 1 = cc in let y : ⊥ = omega arith in absurd y });
+          some = some;
           going = λ q. let z : _≡_ {A = ℕ} 0 1 = cc in omega arith;
-          again = λ q room. omega (arith, f .some d (omega arith), length-take-le (r .filled) x (f .reach .1));
+          again = λ q. omega (arith, f .some d (omega arith), length-take-le (r .filled) x (f .reach .1));
         }
 
-    went-by : Went (carried m line buf n (r, x)) line body w out
+    went-by : GoesOn (carried m line buf n (r, x))
     unfolding carried
     went-by = go (r .done) refl
       where
         go : (d : Bool) → r .done ≡ d
-            → Went (cond {A = Turned} d (behind m line (r .ordinal) k n, (written (r .filled), (tailPut k n buf .1, x))) (again m line r n, (written (r .filled), (buf, x)))) line body w out
+            → GoesOn (cond {A = Turned Lister} d (behind m line (r .ordinal) k n, (written (r .filled), (tailPut k n buf .1, x))) (again m line r n, (written (r .filled), (buf, x))))
         go true d = behind-all d
         go false d = among d
 
-  pub went : Went (carriedOn m line buf n out) line body w out
+  pub went : GoesOn (carriedOn m line buf n out)
   unfolding carriedOn
   went = went-by _ _ (part-fills line (m .base) (take n buf) (m .ordinal) (m .next) out)

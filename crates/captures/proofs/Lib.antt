@@ -10,5 +10,4 @@ pub mod Tasks
 pub mod Sample
 pub mod Turning
 pub mod Going
-pub mod Stands
 pub mod EachTurn

@@ -18,7 +18,8 @@ use Rattle.cutting.specs.declared.search.Span.{Span}
 use Rattle.cutting.specs.declared.search.Span.the-variants.{Found, Nothing}
 use Rattle.cutting.specs.Search.{spanOf, partOf}
 use Rattle.text.specs.Putting.{placed}
-use Rattle.captures.specs.Listing.{wrapped, lineRoom, putting, linePut}
+use Rattle.pieces.specs.Counts.{wrapped}
+use Rattle.captures.specs.Listing.{lineRoom, putting, linePut}
 use Rattle.captures.specs.Part.{spansOf, lineAt, nextFor, nextAt, nextLineOf, stopped, listedIn}
 use Rattle.captures.proofs.Spans.{found-within, spans-step}
 use Rattle.captures.specs.declared.part.NextLine as next

@@ -4,7 +4,7 @@ use mathlib.Core.List.{List, [], _∷_, _++_, append-nil, append-assoc}
 use Prim.Native.Nat.{ℕ, _+_}
 use native.Mathlib.Omega.{arith}
 use lib.ListN.{length, drop, length-append, length-drop}
-use Rattle.captures.specs.Listing.{wrapped}
+use Rattle.pieces.specs.Counts.{wrapped}
 use Rattle.captures.specs.Part.{spansOn, spansOf, linesIn, linesOf}
 use Rattle.captures.specs.Whole.{nextOrdinal, keptOf, runOf, joined, FewKept, InPieces}
 use Rattle.captures.proofs.Whole.{in-two}

@@ -1,11 +1,10 @@
 -- A line from the front of an output, and how long it can be. Assumes nothing.
-use mathlib.Core.Path.{_≡_, sym, ap, ap₂, _∙_}
-use mathlib.Core.List.{List, _++_, append-assoc}
-use Prim.Native.Nat.{ℕ, _+_, _-_, _≤_, _<_, _^_}
+use mathlib.Core.Path.{_≡_, ap, ap₂, _∙_}
+use mathlib.Core.List.{List}
+use Prim.Native.Nat.{ℕ, _≤_, _<_, _^_}
 use native.Mathlib.Omega.{arith}
 use native.Mathlib.Nat.{zero-add}
-use lib.ListN.{length, take, drop, length-append, length-drop}
-use lib.Seq.{length-take-le, take-at, drop-at, drop-drop}
+use lib.ListN.{length, length-append}
 use borrow.Author.Tests.{le-leb, lt-leb}
 use Rattle.records.specs.declared.records.Record.{Record}
 use Rattle.records.specs.Refusals.{No, no}
@@ -52,26 +51,3 @@ from-front t out r x h g e =
 pub whole : (ordinal offset : ℕ) (answer : Answer) (out : List ℕ) (r : ℕ) (x : List ℕ) → lineRoom ≤ length out → ordinal < 2 ^ 64 → offset < 2 ^ 64
     → length (answerText answer) ≤ answerRoom → (r, x) ≡ puts (lineText ordinal offset answer) 0 out → (written r, x) ≡ linePut ordinal offset answer out
 whole ordinal offset answer out r x h p q k e = from-front (lineText ordinal offset answer) out r x h (line-room ordinal offset answer p q k) e
-
--- a text put into an output
-module _ (t out : List ℕ) (at : ℕ) (h : at ≤ length out) where
-  pub put-length : length (placed t at out .1) ≡ at + length t + (length out - (at + length t))
-  unfolding placed
-  put-length = omega (arith, length-append (take at out) (t ++ drop (at + length t) out), length-append t (drop (at + length t) out), length-take-le at out h, length-drop (at + length t) out)
-
-  front : length (take at out ++ t) ≡ at + length t
-  front = omega (arith, length-append (take at out) t, length-take-le at out h)
-
-  split : placed t at out .1 ≡ (take at out ++ t) ++ drop (at + length t) out
-  unfolding placed
-  split = sym (append-assoc (take at out) t (drop (at + length t) out))
-
-  pub put-take : take (at + length t) (placed t at out .1) ≡ take at out ++ t
-  put-take = rw split (take-at (take at out ++ t) (drop (at + length t) out) (at + length t) front)
-
-  pub put-drop : (n : ℕ) → at + length t ≤ n → drop n (placed t at out .1) ≡ drop n out
-  put-drop n g =
-      let k : at + length t + (n - (at + length t)) ≡ n = omega arith in
-      let d : drop (at + length t) (placed t at out .1) ≡ drop (at + length t) out = rw split (drop-at (take at out ++ t) (drop (at + length t) out) (at + length t) front) in
-      ap (λ (i : ℕ). drop i (placed t at out .1)) (sym k) ∙ sym (drop-drop (n - (at + length t)) (at + length t) (placed t at out .1))
-      ∙ ap (drop (n - (at + length t))) d ∙ drop-drop (n - (at + length t)) (at + length t) out ∙ ap (λ (i : ℕ). drop i out) k

@@ -12,7 +12,7 @@ use Rattle.cutting.specs.declared.search.Span.the-variants.{Found, Nothing}
 use Rattle.cutting.specs.Turns.{turnOf}
 use Rattle.cutting.specs.Search.{onTurn, cutFrom, spanOf}
 use Rattle.cutting.proofs.Cases.{joins-at, ends-at}
-use Rattle.captures.specs.Listing.{wrapped}
+use Rattle.pieces.specs.Counts.{wrapped}
 use Rattle.captures.specs.Part.{spanning, spansOn, spansOf, lineAt, linesIn, linesOf}
 use Rattle.captures.proofs.Spans.{enough}
 

@@ -4,17 +4,18 @@ use mathlib.Core.Bool.{true, false}
 use mathlib.Core.List.{List}
 use Prim.Native.Nat.{ℕ, _+_}
 use lib.ListN.{length, take}
-use Rattle.records.specs.Refusals.{No}
-use Rattle.records.specs.Answers.{good, fails, Outcome, written, refused}
+use Rattle.records.specs.Answers.{good, Outcome, written}
 use Rattle.text.specs.Putting.{puts}
 use Rattle.captures.specs.declared.part.Listed.{Listed}
 use Rattle.captures.specs.declared.lister.Lister.{Lister}
 use Rattle.captures.specs.declared.lister.Task.{Task}
 use Rattle.captures.specs.Part.{listPart, keptFrom}
 use Rattle.pieces.specs.Tails.{tailPut}
+use Rattle.pieces.specs.Turns.{Turned}
+use Rattle.pieces.proofs.Runs.{wanted}
 use Rattle.pieces.specs.Line.{badLine}
 use Rattle.captures.specs.Lister.{listFault, taskFor, ended}
-use Rattle.captures.specs.Turn.{Turned, again, behind, unnamed, carried, carriedOn, doneBy, wantedOf, listOf}
+use Rattle.captures.specs.Turn.{again, behind, unnamed, carried, carriedOn, doneBy, listing, listOf}
 
 pub unnamed-put : (m : Lister) (out t : List ℕ) (l : Lister) (r : ℕ) (x : List ℕ) → t ≡ badLine → (r, x) ≡ puts t 0 out → l ≡ ended m → (l, (written r, x)) ≡ unnamed m out
 unfolding unnamed
@@ -35,18 +36,9 @@ module _ (m : Lister) (line : ℕ) (buf : List ℕ) (n : ℕ) (out s : List ℕ)
       let q : b ≡ tailPut (keptFrom (listed .next) n) n buf .1 = ap (λ (y : ℕ × List ℕ). y .1) t ∙ ap (λ (i : ℕ). tailPut i n buf .1) k in
       rw (g, q, ← p, ← e, h, k)
 
-module _ (m : Lister) (buf : List ℕ) (got : ℕ) (out : List ℕ) where
-  pub refused-turn : (x : No) → fails x ≡ listFault m (length buf) got (length out) → (m, (refused x, (buf, out))) ≡ listOf m buf got out
-  unfolding listOf
-  refused-turn x h = rw (← h)
-
-  pub wanted : (t : Turned) → good ≡ listFault m (length buf) got (length out) → t ≡ wantedOf (m .wants) m buf got out → t ≡ listOf m buf got out
-  unfolding listOf
-  wanted t f e = rw (← f) e
-
-  -- the task is that of the bytes at hand, and is done
-  pub tasked : (task given : Task) (s : List ℕ) (t : Turned) → good ≡ listFault m (length buf) got (length out) → s ≡ take (m .held + got) buf
-      → task ≡ taskFor (m .wants) m got s → task ≡ given → t ≡ doneBy given m buf (m .held + got) out → t ≡ listOf m buf got out
-  tasked task given s t f p k g e =
-      let q : given ≡ taskFor (m .wants) m got (take (m .held + got) buf) = sym g ∙ k ∙ ap (taskFor (m .wants) m got) p in
-      wanted t f (e ∙ ap (λ (y : Task). doneBy y m buf (m .held + got) out) q)
+-- the task is that of the bytes at hand, and is done
+pub tasked : (m : Lister) (buf : List ℕ) (got : ℕ) (out : List ℕ) (task given : Task) (s : List ℕ) (t : Turned Lister) → good ≡ listFault m (length buf) got (length out)
+    → s ≡ take (m .held + got) buf → task ≡ taskFor (m .wants) m got s → task ≡ given → t ≡ doneBy given m buf (m .held + got) out → t ≡ listOf m buf got out
+tasked m buf got out task given s t f p k g e =
+    let q : given ≡ taskFor (m .wants) m got (take (m .held + got) buf) = sym g ∙ k ∙ ap (taskFor (m .wants) m got) p in
+    wanted listing m buf got out t f (e ∙ ap (λ (y : Task). doneBy y m buf (m .held + got) out) q)

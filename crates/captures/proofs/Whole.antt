@@ -12,7 +12,7 @@ use Rattle.cutting.specs.declared.search.Span.the-variants.{Found, Nothing}
 use Rattle.cutting.specs.Search.{spanOf}
 use Rattle.cutting.specs.Telegrams.{Telegram, FirstTelegram}
 use Rattle.cutting.proofs.First.{span-first, search-answers}
-use Rattle.captures.specs.Listing.{wrapped}
+use Rattle.pieces.specs.Counts.{wrapped}
 use Rattle.captures.specs.Part.{spanning, spansOf, lineAt, linesIn, linesOf, keptFrom}
 use Rattle.captures.specs.Whole.{linesLeft, InTwo}
 use Rattle.captures.proofs.Spans.{found-within, none-behind, spans-step}

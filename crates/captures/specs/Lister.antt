@@ -14,8 +14,8 @@ use Rattle.pieces.specs.Line.{lineNamed}
 use Rattle.captures.specs.declared.lister.Lister.{Lister}
 use Rattle.captures.specs.declared.lister.Task.{Task}
 use Rattle.captures.specs.declared.lister.Task.the-variants.{Lists, Unnamed, Over}
-use Rattle.captures.specs.declared.lister.Wants.{Wants}
-use Rattle.captures.specs.declared.lister.Wants.the-variants.{Read, Again, End}
+use Rattle.pieces.specs.declared.wants.Wants.{Wants}
+use Rattle.pieces.specs.declared.wants.Wants.the-variants.{Read, Again, End}
 
 -- ordinals go from 1; the digit stands before offset 0, and the listing goes on behind it
 abbrev pub atFirst : Lister

@@ -1,5 +1,5 @@
 -- The lines of the listing (rules P2, P10). Assumes nothing.
-use Prim.Native.Nat.{ℕ, _%_, _^_}
+use Prim.Native.Nat.{ℕ}
 use mathlib.Core.Bool.{cond}
 use mathlib.Core.List.{List, [], _∷_, _++_}
 use lib.Dec.{leb}
@@ -11,10 +11,6 @@ use Rattle.records.specs.Answers.{Answer, accepted, refused, written, Write}
 use Rattle.characters.specs.Marks.{lf}
 use Rattle.text.specs.Numbers.{decimalText}
 use Rattle.text.specs.Items.{refusalText}
-
--- ordinals and offsets are 64-bit numbers
-abbrev pub wrapped : ℕ → ℕ
-wrapped n = n % 2 ^ 64
 
 -- `ok`, type, number, or `no`, refusal, place; the type is printed as its byte
 abbrev pub answerText : Answer → List ℕ

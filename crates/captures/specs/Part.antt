@@ -12,7 +12,8 @@ use Rattle.cutting.specs.declared.search.Span.the-variants.{Found, Nothing}
 use Rattle.cutting.specs.Search.{spanOf, partOf}
 use Rattle.captures.specs.declared.part.Listed.{Listed}
 use Rattle.text.specs.Putting.{placed}
-use Rattle.captures.specs.Listing.{wrapped, lineText, lineRoom, putting}
+use Rattle.pieces.specs.Counts.{wrapped}
+use Rattle.captures.specs.Listing.{lineText, lineRoom, putting}
 use Rattle.captures.specs.declared.part.NextLine as next
 
 -- what a search finds, before what later searches find from its end on

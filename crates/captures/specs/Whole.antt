@@ -4,7 +4,7 @@ use mathlib.Core.List.{List, [], _∷_, _++_}
 use Prim.Native.Nat.{ℕ, _+_, _≤_}
 use lib.ListN.{length, drop}
 use Rattle.characters.specs.Marks.{unfinished}
-use Rattle.captures.specs.Listing.{wrapped}
+use Rattle.pieces.specs.Counts.{wrapped}
 use Rattle.captures.specs.Part.{spansOf, linesOf, keptFrom}
 
 -- the end of the last telegram, and the next ordinal

@@ -7,15 +7,9 @@ use characters::marks::LONGEST;
 use characters::slices::byte_at;
 use forms::lines::is_line;
 use pieces::line::line_named;
+use pieces::wants::Wants;
 use records::answers::Check;
 use records::refusals::Refusal;
-
-// What a listing wants next: bytes read behind those held, none where the input has ended; the next turn, the output being full; or nothing more.
-pub enum Wants {
-    Read,
-    Again,
-    End,
-}
 
 // Between two turns: the line, 0 before its digit is known; how many bytes are held in front of the buffer; where among them the listing goes on; the next
 // telegram's ordinal; the offset of the first byte held.

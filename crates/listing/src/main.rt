@@ -1,7 +1,7 @@
 // The listing program (rules P1 to P6): lists the telegrams of standard input. It reads, calls a turn of the listing, and writes.
 use captures::lister::Lister;
-use captures::lister::Wants;
 use captures::turn::list;
+use pieces::wants::Wants;
 use records::answers::Writing;
 use stdio::input::Got;
 use stdio::input::called_alone;

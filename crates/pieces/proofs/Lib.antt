@@ -1,3 +1,4 @@
 pub mod Kept
 pub mod Moved
 pub mod Named
+pub mod Runs

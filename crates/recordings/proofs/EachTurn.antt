@@ -6,7 +6,7 @@ use native.Mathlib.Omega.{arith}
 use lib.ListN.{length, take}
 use lib.Seq.{length-take-le}
 use Rattle.characters.specs.Marks.{longest}
-use Rattle.captures.specs.declared.lister.Wants.the-variants.{Read, End}
+use Rattle.pieces.specs.declared.wants.Wants.the-variants.{Read, End}
 use Rattle.logs.specs.Records.{head}
 use Rattle.logs.proofs.Left.{what-is-left}
 use Rattle.recordings.specs.Replay.Whole.{replayOn}

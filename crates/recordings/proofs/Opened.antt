@@ -11,7 +11,7 @@ use Rattle.laws.proofs.Passes.{on-test}
 use Rattle.text.proofs.Puts.{at-front}
 use Rattle.pieces.specs.Line.{badLine, lineNamed}
 use Rattle.pieces.proofs.Named.{line-named}
-use Rattle.captures.specs.declared.lister.Wants.the-variants.{End}
+use Rattle.pieces.specs.declared.wants.Wants.the-variants.{End}
 use Rattle.recordings.specs.Replay.Texts.{rowRoom}
 use Rattle.recordings.specs.Replay.Turn.{openedOn}
 use Rattle.recordings.specs.Replay.Whole.{replayOn, replayOf}

@@ -8,8 +8,8 @@ use lib.Dec.{ltb, eqb}
 use lib.ListN.{length, take, drop, length-drop}
 use lib.Seq.{drop-drop}
 use Rattle.text.specs.Putting.{placed}
-use Rattle.captures.specs.Listing.{wrapped}
-use Rattle.captures.proofs.Puts.{put-length, put-take}
+use Rattle.pieces.specs.Counts.{wrapped}
+use Rattle.text.proofs.Puts.{put-length, put-take}
 use Rattle.desk.specs.declared.state.Desk.{Desk}
 use Rattle.logs.specs.Records.{LogRecord}
 use Rattle.logs.specs.Whole.{Log, Ending, over, refusal, sizeOf, logOf, waitsAt}

@@ -12,12 +12,12 @@ use borrow.Author.Tests.{eqb-true, eqb-false}
 use Rattle.laws.proofs.Passes.{on-test}
 use Rattle.records.specs.Answers.{good, written}
 use Rattle.text.specs.Putting.{placed}
-use Rattle.captures.specs.Listing.{wrapped}
-use Rattle.captures.proofs.Puts.{put-take}
+use Rattle.pieces.specs.Counts.{wrapped}
+use Rattle.text.proofs.Puts.{put-take}
 use Rattle.pieces.specs.Tails.{tailPut}
 use Rattle.pieces.proofs.Kept.{kept-front, kept-within}
-use Rattle.captures.specs.declared.lister.Wants.{Wants}
-use Rattle.captures.specs.declared.lister.Wants.the-variants.{Read, Again, End}
+use Rattle.pieces.specs.declared.wants.Wants.{Wants}
+use Rattle.pieces.specs.declared.wants.Wants.the-variants.{Read, Again, End}
 use Rattle.logs.specs.Whole.{Log, logOf, waitsAt}
 use Rattle.logs.proofs.Left.{what-is-left, empty-log}
 use Rattle.recordings.specs.declared.replay.part.Stop.{Stop}

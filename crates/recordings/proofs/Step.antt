@@ -13,7 +13,7 @@ use borrow.Author.Tests.{le-ltb, lt-ltb}
 use Rattle.laws.proofs.Truths.{clash}
 use Rattle.text.specs.Putting.{puts, placed}
 use Rattle.records.specs.Refusals.{No}
-use Rattle.captures.specs.Listing.{wrapped}
+use Rattle.pieces.specs.Counts.{wrapped}
 use Rattle.desk.specs.declared.state.Desk.{Desk}
 use Rattle.logs.specs.declared.marks.Mark.{Mark}
 use Rattle.logs.specs.Records.{LogRecord, logRecord}

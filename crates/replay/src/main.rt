@@ -1,6 +1,6 @@
 // The replay program (rules Q9 to Q14): runs a fresh desk of a line over the log of standard input. It reads, calls a turn of the replay, and writes.
-use captures::lister::Wants;
 use characters::slices::part;
+use pieces::wants::Wants;
 use recordings::replay::state::Replayer;
 use recordings::replay::turn::open;
 use recordings::replay::turn::replay;

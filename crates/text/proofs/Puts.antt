@@ -1,12 +1,12 @@
 -- Texts put into an output one behind the other. Assumes nothing.
 use mathlib.Core.Path.{_≡_, refl, sym, ap, _∙_}
 use mathlib.Core.List.{List, [], _∷_, _++_, append-assoc, append-nil}
-use Prim.Native.Nat.{ℕ, suc, _+_, _≤_, _<_}
+use Prim.Native.Nat.{ℕ, suc, _+_, _-_, _≤_, _<_}
 use native.Mathlib.Omega.{arith}
 use native.Mathlib.Numerals.{add-one}
 use native.Mathlib.Nat.{add-zero, zero-add, add-suc, suc-add}
-use lib.ListN.{length, take, drop, set, getD, length-set, length-take, take-append-drop, drop-of-length-le}
-use lib.Seq.{take-all, take-at, drop-cons, drop-drop, take-suc-set, drop-set-lt}
+use lib.ListN.{length, take, drop, set, getD, length-set, length-append, length-take, length-drop, take-append-drop, drop-of-length-le}
+use lib.Seq.{take-all, take-at, drop-at, drop-cons, drop-drop, take-suc-set, drop-set-lt, length-take-le}
 use borrow.Author.Tests.{lt-ltb, le-ltb}
 use Rattle.laws.proofs.Passes.{order}
 use Rattle.text.specs.Putting.{puts, placed}
@@ -75,3 +75,26 @@ in-stretch t at k out new h q e =
 pub put-all : (left text : List ℕ) (at : ℕ) (out : List ℕ) (a : ℕ) (o : List ℕ) → left ≡ [] → puts left a o ≡ puts text at out → (a, o) ≡ puts text at out
 unfolding puts
 put-all left text at out a o e h = rw e at h
+
+-- a text placed in an output
+module _ (t out : List ℕ) (at : ℕ) (h : at ≤ length out) where
+  pub put-length : length (placed t at out .1) ≡ at + length t + (length out - (at + length t))
+  unfolding placed
+  put-length = omega (arith, length-append (take at out) (t ++ drop (at + length t) out), length-append t (drop (at + length t) out), length-take-le at out h, length-drop (at + length t) out)
+
+  front : length (take at out ++ t) ≡ at + length t
+  front = omega (arith, length-append (take at out) t, length-take-le at out h)
+
+  split : placed t at out .1 ≡ (take at out ++ t) ++ drop (at + length t) out
+  unfolding placed
+  split = sym (append-assoc (take at out) t (drop (at + length t) out))
+
+  pub put-take : take (at + length t) (placed t at out .1) ≡ take at out ++ t
+  put-take = rw split (take-at (take at out ++ t) (drop (at + length t) out) (at + length t) front)
+
+  pub put-drop : (n : ℕ) → at + length t ≤ n → drop n (placed t at out .1) ≡ drop n out
+  put-drop n g =
+      let k : at + length t + (n - (at + length t)) ≡ n = omega arith in
+      let d : drop (at + length t) (placed t at out .1) ≡ drop (at + length t) out = rw split (drop-at (take at out ++ t) (drop (at + length t) out) (at + length t) front) in
+      ap (λ (i : ℕ). drop i (placed t at out .1)) (sym k) ∙ sym (drop-drop (n - (at + length t)) (at + length t) (placed t at out .1))
+      ∙ ap (drop (n - (at + length t))) d ∙ drop-drop (n - (at + length t)) (at + length t) out ∙ ap (λ (i : ℕ). drop i out) k

@@ -5,7 +5,7 @@ use Prim.Native.Nat.{ℕ, _+_, _-_}
 use lib.Dec.{ltb, eqb}
 use lib.ListN.{length, take, drop}
 use Rattle.text.specs.Putting.{puts, placed}
-use Rattle.captures.specs.Listing.{wrapped}
+use Rattle.pieces.specs.Counts.{wrapped}
 use Rattle.desk.specs.declared.state.Desk.{Desk}
 use Rattle.logs.specs.Records.{LogRecord}
 use Rattle.logs.specs.Reader.{Found, found, end, refused, recordAt}

@@ -4,7 +4,7 @@ use mathlib.Core.Bool.{true}
 use mathlib.Core.List.{List, [], _++_}
 use Prim.Native.Nat.{ℕ, _+_, _≤_}
 use lib.ListN.{length, take, drop}
-use Rattle.captures.specs.Listing.{wrapped}
+use Rattle.pieces.specs.Counts.{wrapped}
 use Rattle.desk.specs.declared.state.Desk.{Desk}
 use Rattle.logs.specs.Whole.{logOf, waitsAt}
 use Rattle.recordings.specs.declared.replay.part.Stop.the-variants.{Waits, Over}

@@ -5,7 +5,7 @@ use Prim.Native.Nat.{ℕ, _+_, _≤_, _<_}
 use lib.ListN.{length, take}
 use Rattle.characters.specs.Marks.{longest}
 use Rattle.records.specs.Answers.{good, Outcome, written, refused}
-use Rattle.captures.specs.declared.lister.Wants.the-variants.{Read, End}
+use Rattle.pieces.specs.declared.wants.Wants.the-variants.{Read, End}
 use Rattle.logs.specs.Records.{head}
 use Rattle.recordings.specs.Replay.Texts.{rowRoom}
 use Rattle.recordings.specs.declared.replay.state.Replayer.{Replayer}

@@ -7,8 +7,8 @@ use Rattle.characters.specs.Marks.{longest}
 use Rattle.records.specs.Refusals.{no}
 use Rattle.records.specs.Answers.{Fault, good, fails}
 use Rattle.desk.specs.State.{startOf}
-use Rattle.captures.specs.declared.lister.Wants.{Wants}
-use Rattle.captures.specs.declared.lister.Wants.the-variants.{Read, Again, End}
+use Rattle.pieces.specs.declared.wants.Wants.{Wants}
+use Rattle.pieces.specs.declared.wants.Wants.the-variants.{Read, Again, End}
 use Rattle.logs.specs.Records.{head}
 use Rattle.recordings.specs.declared.replay.part.Stop.{Stop}
 use Rattle.recordings.specs.declared.replay.part.Stop.the-variants.{Goes, Full, Waits, Over}

@@ -5,7 +5,7 @@ use lib.ListN.{take}
 use Rattle.characters.specs.Marks.{lf}
 use Rattle.records.specs.Refusals.{no}
 use Rattle.text.specs.Items.{refusalText}
-use Rattle.captures.specs.Listing.{wrapped}
+use Rattle.pieces.specs.Counts.{wrapped}
 use Rattle.desk.specs.declared.state.Desk.{Desk}
 use Rattle.logs.specs.Records.{LogRecord}
 use Rattle.logs.specs.Whole.{Ending, over, refusal, Log, sizeOf}

@@ -6,11 +6,11 @@ use lib.Dec.{eqb}
 use lib.ListN.{length, take, getD}
 use Rattle.records.specs.Answers.{Fault, good, fails, Outcome, written, refused}
 use Rattle.text.specs.Putting.{puts, placed}
-use Rattle.captures.specs.Listing.{wrapped}
+use Rattle.pieces.specs.Counts.{wrapped}
 use Rattle.pieces.specs.Tails.{tailPut}
 use Rattle.pieces.specs.Line.{badLine, lineNamed}
-use Rattle.captures.specs.declared.lister.Wants.{Wants}
-use Rattle.captures.specs.declared.lister.Wants.the-variants.{Read, Again, End}
+use Rattle.pieces.specs.declared.wants.Wants.{Wants}
+use Rattle.pieces.specs.declared.wants.Wants.the-variants.{Read, Again, End}
 use Rattle.recordings.specs.declared.replay.part.Replayed.{Replayed}
 use Rattle.recordings.specs.Replay.Texts.{cut, refusedText}
 use Rattle.recordings.specs.Replay.Part.{partOf}

@@ -4,10 +4,10 @@ ghost use Rattle.records.specs.Answers.{faultOf};
 ghost use Rattle.recordings.specs.Replay.State.{begunOn, turnFault, wantsFor};
 use crate::replay::part::ROW_ROOM;
 use crate::replay::part::Stop;
-use captures::lister::Wants;
 use characters::marks::LONGEST;
 use desk::state::Desk;
 use logs::reader::HEAD;
+use pieces::wants::Wants;
 use records::answers::Check;
 use records::refusals::Refusal;
 

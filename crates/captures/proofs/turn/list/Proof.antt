@@ -5,8 +5,10 @@ use denote.Ref.{now}
 use Rattle.records.specs.Answers.{faultOf, written}
 use Rattle.captures.specs.declared.lister.Lister.{Lister}
 use Rattle.captures.proofs.Checks.{held-within, in-range}
-use Rattle.captures.specs.Turn.{Turned, beside}
-use Rattle.captures.proofs.Turning.{refused-turn, tasked}
+use Rattle.pieces.specs.Turns.{Turned, beside}
+use Rattle.pieces.proofs.Runs.{refused-turn}
+use Rattle.captures.specs.Turn.{listing}
+use Rattle.captures.proofs.Turning.{tasked}
 use borrow.Author.Needs.{needs}
 use Rattle.captures.proofs.turn.list.Statement.{statement}
 use Rattle.captures.proofs.turn.list.Tie as tie
@@ -14,7 +16,7 @@ use Rattle.captures.proofs.turn.list.Tie as tie
 returns : tie.Need-returns
 returns c =
     let a = c .before .before .before .before .before .before .args in
-    refused-turn (a .lister) (now (a .buf)) (a .got) (now (a .out)) _ (sym (ap faultOf (c .before .check .given .1)) ∙ c .before .before .before .list-check .ensures)
+    refused-turn listing (a .lister) (now (a .buf)) (a .got) (now (a .out)) _ (sym (ap faultOf (c .before .check .given .1)) ∙ c .before .before .before .list-check .ensures)
 
 enum-told : tie.Need-enum-told
 enum-told c = search needs
@@ -53,7 +55,7 @@ returns-4 c =
     let part = c .before .before .before .before .part in
     let task = c .before .before .before .task in
     tasked (a .lister) (now (a .buf)) (a .got) (now (a .out)) _ _ _ _ (sym (ap faultOf (enum-told .given .1)) ∙ list-check .ensures) (part .ensures) (task .ensures)
-    (c .before .enum-told3 .given .1) (ap {B = Turned} (λ (l : Lister). (l, (written 0, (now (a .buf), now (a .out))))) (c .ended .ensures))
+    (c .before .enum-told3 .given .1) (ap {B = Turned Lister} (λ (l : Lister). (l, (written 0, (now (a .buf), now (a .out))))) (c .ended .ensures))
 
 pub list-spec : {M : Type 1} → statement M
 list-spec =

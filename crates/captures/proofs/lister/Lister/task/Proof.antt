@@ -1,7 +1,7 @@
 -- `task` goes by what was wanted. Assumes nothing.
 use mathlib.Core.Path.{sym, ap, _∙_}
 use denote.Ref.{now}
-use Rattle.captures.specs.declared.lister.Wants.{Wants}
+use Rattle.pieces.specs.declared.wants.Wants.{Wants}
 use Rattle.captures.specs.Lister.{lineTask, taskFor}
 use borrow.Author.Needs.{needs}
 use Rattle.captures.proofs.lister.Lister.task.Statement.{statement}

@@ -1,7 +1,7 @@
 -- `replay` checks 15 and 14, and does what was wanted. Assumes nothing.
 use Rattle.recordings.proofs.Turning.{refused-turn, wanted, some-read, none-read, none-wanted}
 use Rattle.recordings.proofs.Checks.{fits}
-use Rattle.captures.specs.declared.lister.Wants.the-variants.{Read, Again, End}
+use Rattle.pieces.specs.declared.wants.Wants.the-variants.{Read, Again, End}
 use Rattle.records.specs.Answers.{faultOf}
 use denote.Ref.{now}
 use native.Mathlib.Omega.{arith}
