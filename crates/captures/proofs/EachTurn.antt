@@ -12,7 +12,6 @@ use borrow.Author.Tests.{le-leb, eq-eqb, ne-eqb, eqb-true, eqb-false}
 use Rattle.laws.proofs.Passes.{on-test}
 use Rattle.characters.specs.Marks.{longest}
 use Rattle.forms.specs.Lines.{isLine}
-use Rattle.records.specs.Answers.{good}
 use Rattle.text.proofs.Puts.{at-front}
 use Rattle.pieces.specs.Line.{badLine, lineNamed}
 use Rattle.pieces.specs.Turns.{beside}

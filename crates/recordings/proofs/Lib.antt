@@ -4,6 +4,5 @@ pub mod Step
 pub mod Parts
 pub mod Checks
 pub mod Turning
-pub mod Stands
 pub mod EachTurn
 pub mod Opened

@@ -2,11 +2,13 @@
 use mathlib.Core.Path.{_≡_, refl, sym, ap, _∙_}
 use mathlib.Core.Bool.{Bool, true, false, cond}
 use mathlib.Core.List.{List, [], _∷_, _++_, append-assoc}
-use Prim.Native.Nat.{ℕ, _+_, _-_, _≤_}
+use Prim.Native.Nat.{ℕ, _+_, _-_, _≤_, _<_}
 use native.Mathlib.Omega.{arith}
 use lib.Dec.{ltb, eqb}
-use lib.ListN.{length, take, drop, length-drop}
+use lib.ListN.{length, take, drop, length-take, length-drop}
 use lib.Seq.{drop-drop}
+use borrow.Author.Tests.{ltb-true}
+use Rattle.laws.proofs.Passes.{on-test}
 use Rattle.text.specs.Putting.{placed}
 use Rattle.pieces.specs.Counts.{wrapped}
 use Rattle.text.proofs.Puts.{put-length, put-take}
@@ -44,15 +46,17 @@ module _ (base : ℕ) (s : List ℕ) where
     pub over : y .0 .stop ≡ Over → (b : List ℕ) → take (y .0 .filled) (y .1) ≡ take filled out ++ textOf d ordinal (wrapped (base + place)) (logOf (drop place s ++ b))
     pub within : place ≤ length s → y .0 .next ≤ length s
     pub waits : y .0 .stop ≡ Waits → (logOf (drop (y .0 .next) s) .0 ≡ []) × (waitsAt (logOf (drop (y .0 .next) s) .1) ≡ true)
+    pub full : (y .0 .stop ≡ Waits → ⊥) → (y .0 .stop ≡ Over → ⊥) → rowRoom ≤ length out → 0 < length (take (y .0 .filled) (y .1))
 
   module _ (d : Desk) (ordinal place filled : ℕ) (out : List ℕ) where
-    full-here : Fills d ordinal place filled out (stopped d ordinal place filled Full, out)
-    full-here =
+    full-here : length out - filled < rowRoom → Fills d ordinal place filled out (stopped d ordinal place filled Full, out)
+    full-here short =
         record {
           on = λ n b. refl;
           over = λ e. let z : _≡_ {A = ℕ} 1 3 = ap tagged e in let y : ⊥ = omega (arith, z) in absurd y;
           within = λ h. h;
           waits = λ e. let z : _≡_ {A = ℕ} 1 2 = ap tagged e in let y : ⊥ = omega (arith, z) in absurd y;
+          full = λ w o l. omega (arith, length-take filled out);
         }
 
     waits-here : (ending : Ending) → logOf (drop place s) ≡ ([], ending) → waitsAt ending ≡ true → Fills d ordinal place filled out (stopped d ordinal place filled Waits, out)
@@ -62,6 +66,7 @@ module _ (base : ℕ) (s : List ℕ) where
           over = λ q. let z : _≡_ {A = ℕ} 2 3 = ap tagged q in let y : ⊥ = omega (arith, z) in absurd y;
           within = λ h. h;
           waits = λ q. (ap (λ (l : Log). l .0) e, ap (λ (l : Log). waitsAt (l .1)) e ∙ w);
+          full = λ n. absurd (n refl);
         }
 
     refused-here : (number : ℕ) → logOf (drop place s) ≡ ([], refusal number) → filled ≤ length out → (b : Bool) → eqb number 20 ≡ b
@@ -78,16 +83,17 @@ module _ (base : ℕ) (s : List ℕ) where
               ∙ ap (λ (l : Log). take filled out ++ textOf d ordinal (wrapped (base + place)) l) (sym (stands (drop place s) b (ap (λ (l : Log). waitsAt (l .1)) e ∙ q) ∙ e));
           within = λ k. k;
           waits = λ x. let z : _≡_ {A = ℕ} 3 2 = ap tagged x in let y : ⊥ = omega (arith, z) in absurd y;
+          full = λ w n. absurd (n refl);
         }
 
     end-here : (ending : Ending) → logOf (drop place s) ≡ ([], ending) → filled ≤ length out → Fills d ordinal place filled out (endIn ending base d ordinal place filled out)
     end-here over e h = waits-here over e refl
     end-here (refusal number) e h = refused-here number e h (eqb number 20) refl
 
-  on-room : (d : Desk) (ordinal place filled : ℕ) (out : List ℕ) (b : Bool) (y : Replayed × List ℕ) → Fills d ordinal place filled out y
-      → Fills d ordinal place filled out (cond b (stopped d ordinal place filled Full, out) y)
-  on-room d ordinal place filled out true y f = full-here d ordinal place filled out
-  on-room d ordinal place filled out false y f = f
+  on-room : (d : Desk) (ordinal place filled : ℕ) (out : List ℕ) (y : Replayed × List ℕ) → Fills d ordinal place filled out y
+      → Fills d ordinal place filled out (cond (ltb (length out - filled) rowRoom) (stopped d ordinal place filled Full, out) y)
+  on-room d ordinal place filled out y f =
+      on-test (ltb (length out - filled) rowRoom) (λ q. rw q (full-here d ordinal place filled out (ltb-true (length out - filled) rowRoom q))) (λ q. rw q f)
 
   -- a record's row, and then the part behind it
   behind-row : (r : LogRecord) (rs : List LogRecord) (ending : Ending) (d : Desk) (ordinal place filled : ℕ) (out : List ℕ) (y : Replayed × List ℕ)
@@ -102,6 +108,7 @@ module _ (base : ℕ) (s : List ℕ) where
         over = λ q b. f .over q b ∙ same b;
         within = λ k. f .within (omega (arith, first-of (drop place s) r rs ending e .within, length-drop place s, k));
         waits = f .waits;
+        full = λ w n l. f .full w n (omega (arith, put-length t out filled h));
       }
     where
       t : List ℕ
@@ -123,11 +130,9 @@ module _ (base : ℕ) (s : List ℕ) where
       → Fills d ordinal place filled out (partIn base rs ending d ordinal place filled out)
   unfolding partIn
   fills [] ending d ordinal place filled out e h =
-      on-room d ordinal place filled out (ltb (length out - filled) rowRoom) (endIn ending base d ordinal place filled out) (end-here d ordinal place filled out ending e h)
+      on-room d ordinal place filled out (endIn ending base d ordinal place filled out) (end-here d ordinal place filled out ending e h)
   fills (r ∷ rs) ending d ordinal place filled out e h =
-      let w = rowAt d ordinal (wrapped (base + place)) r in
-      let t = cut (rowAt d ordinal (wrapped (base + place)) r .1) in
-      on-room d ordinal place filled out (ltb (length out - filled) rowRoom)
+      on-room d ordinal place filled out
       (partIn base rs ending (rowAt d ordinal (wrapped (base + place)) r .0) (wrapped (ordinal + 1)) (place + sizeOf r) (filled + length (cut (rowAt d ordinal (wrapped (base + place)) r .1)))
       (placed (cut (rowAt d ordinal (wrapped (base + place)) r .1)) filled out .1))
       (behind-row r rs ending d ordinal place filled out _ e h
@@ -141,4 +146,4 @@ unfolding partOf
 in-parts d ordinal base s out =
     let f = fills base s (logOf s .0) (logOf s .1) d ordinal 0 0 out refl (omega arith) in
     let z : base + 0 ≡ base = omega arith in
-    record { on = λ n b. rw z at (f .on n b); over = λ e b. rw z at (f .over e b); within = f .within (omega arith); waits = f .waits }
+    record { on = λ n b. rw z at (f .on n b); over = λ e b. rw z at (f .over e b); within = f .within (omega arith); waits = f .waits; full = f .full }

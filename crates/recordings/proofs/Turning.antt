@@ -7,12 +7,13 @@ use native.Mathlib.Nat.{zero-add}
 use lib.ListN.{length, take, getD, length-take}
 use borrow.Rule.Slice.PartMut.{midOf, putMid}
 use borrow.Author.Tests.{eq-eqb, ne-eqb}
-use Rattle.records.specs.Refusals.{No}
-use Rattle.records.specs.Answers.{good, fails, Outcome, written, refused}
+use Rattle.records.specs.Answers.{good, Outcome, written}
 use Rattle.text.specs.Putting.{puts, placed}
 use Rattle.pieces.specs.Counts.{wrapped}
 use Rattle.pieces.specs.Tails.{tailPut}
 use Rattle.pieces.specs.Line.{badLine, lineNamed}
+use Rattle.pieces.specs.Turns.{Turned, beside}
+use Rattle.pieces.proofs.Runs as runs
 use Rattle.pieces.specs.declared.wants.Wants.{Wants}
 use Rattle.pieces.specs.declared.wants.Wants.the-variants.{Read, End}
 use Rattle.recordings.specs.declared.replay.part.Replayed.{Replayed}
@@ -21,7 +22,7 @@ use Rattle.recordings.specs.Replay.Part.{partOf}
 use Rattle.recordings.proofs.Cut.{puts-cut, at-part, part-length}
 use Rattle.recordings.specs.declared.replay.state.Replayer.{Replayer}
 use Rattle.recordings.specs.Replay.State.{begunOn, turnFault, wantsFor}
-use Rattle.recordings.specs.Replay.Turn.{Turned, ended, openedOn, openedOf, lastOf, beside, carried, carriedOn, wantedOf, turnOf}
+use Rattle.recordings.specs.Replay.Turn.{ended, openedOn, openedOf, lastOf, carried, carriedOn, wantedOf, replaying, turnOf}
 
 module _ (m : Replayer) (out : List ℕ) where
   pub none-held : (l : Replayer) → m .held ≡ 0 → l ≡ ended m → (l, (written 0, out)) ≡ lastOf m out
@@ -54,16 +55,11 @@ kept m buf n out s p x wants base held k b e h t w o l =
     rw (← e, ← h, w, o, l, q)
 
 module _ (m : Replayer) (buf : List ℕ) (got : ℕ) (out : List ℕ) where
-  pub refused-turn : (x : No) → fails x ≡ turnFault (m .held) (length buf) got (length out) → (m, (refused x, (buf, out))) ≡ turnOf m buf got out
-  unfolding turnOf
-  refused-turn x h = rw (← h)
-
-  pub wanted : (w : Wants) (t : Turned) → good ≡ turnFault (m .held) (length buf) got (length out) → m .wants ≡ w → t ≡ wantedOf w m buf got out → t ≡ turnOf m buf got out
-  unfolding turnOf
-  wanted w t f g e = rw (← f) (e ∙ ap (λ (v : Wants). wantedOf v m buf got out) (sym g))
+  pub wanted : (w : Wants) (t : Turned Replayer) → good ≡ turnFault (m .held) (length buf) got (length out) → m .wants ≡ w → t ≡ wantedOf w m buf got out → t ≡ turnOf m buf got out
+  wanted w t f g e = runs.wanted replaying m buf got out t f (e ∙ ap (λ (v : Wants). wantedOf v m buf got out) (sym g))
 
   -- where bytes were read, and where none were
-  pub some-read : (t : Turned) → (got ≡ 0 → ⊥) → t ≡ carriedOn m buf (m .held + got) out → t ≡ wantedOf Read m buf got out
+  pub some-read : (t : Turned Replayer) → (got ≡ 0 → ⊥) → t ≡ carriedOn m buf (m .held + got) out → t ≡ wantedOf Read m buf got out
   some-read t h e = rw (ne-eqb got 0 h) e
 
   pub none-read : (t : Replayer × (Outcome × List ℕ)) → got ≡ 0 → t ≡ lastOf m out → beside buf t ≡ wantedOf Read m buf got out

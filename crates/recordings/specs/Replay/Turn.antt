@@ -4,22 +4,21 @@ use mathlib.Core.List.{List}
 use Prim.Native.Nat.{ℕ, _+_, _-_}
 use lib.Dec.{eqb}
 use lib.ListN.{length, take, getD}
-use Rattle.records.specs.Answers.{Fault, good, fails, Outcome, written, refused}
+use Rattle.characters.specs.Marks.{longest}
+use Rattle.records.specs.Answers.{Outcome, written}
 use Rattle.text.specs.Putting.{puts, placed}
 use Rattle.pieces.specs.Counts.{wrapped}
 use Rattle.pieces.specs.Tails.{tailPut}
 use Rattle.pieces.specs.Line.{badLine, lineNamed}
+use Rattle.pieces.specs.Turns.{Turned, beside, Work, turnBy}
 use Rattle.pieces.specs.declared.wants.Wants.{Wants}
 use Rattle.pieces.specs.declared.wants.Wants.the-variants.{Read, Again, End}
 use Rattle.recordings.specs.declared.replay.part.Replayed.{Replayed}
-use Rattle.recordings.specs.Replay.Texts.{cut, refusedText}
+use Rattle.logs.specs.Records.{head}
+use Rattle.recordings.specs.Replay.Texts.{rowRoom, cut, refusedText}
 use Rattle.recordings.specs.Replay.Part.{partOf}
 use Rattle.recordings.specs.declared.replay.state.Replayer.{Replayer}
 use Rattle.recordings.specs.Replay.State.{begunOn, turnFault, wantsFor}
-
--- the state behind a turn, its answer, the buffer and the output
-abbrev pub Turned : Type 0
-Turned = Replayer × (Outcome × (List ℕ × List ℕ))
 
 -- all is said
 abbrev pub ended : Replayer → Replayer
@@ -37,30 +36,33 @@ unfoldable pub lastOf : Replayer → List ℕ → Replayer × (Outcome × List �
 lastOf m out =
     cond (eqb (m .held) 0) (ended m, (written 0, out)) (ended m, (written (length (cut (refusedText 20 (m .base)))), placed (cut (refusedText 20 (m .base))) 0 out .1))
 
--- where only the output changes
-abbrev pub beside : List ℕ → Replayer × (Outcome × List ℕ) → Turned
-beside buf t = (t .0, (t .1 .0, (buf, t .1 .1)))
-
 -- behind a part of n bytes those behind its records are kept in front, and ordinal and offset are moved on
 abbrev pub behind : Replayer → ℕ → Replayed → Replayer
 behind m n p = record { desk = p .desk; ordinal = p .ordinal; base = wrapped (m .base + p .next); held = n - p .next; wants = wantsFor (p .stop) }
 
-unfoldable pub carried : Replayer → List ℕ → ℕ → Replayed × List ℕ → Turned
+unfoldable pub carried : Replayer → List ℕ → ℕ → Replayed × List ℕ → Turned Replayer
 carried m buf n (p, out) = (behind m n p, (written (p .filled), (tailPut (p .next) n buf .1, out)))
 
-unfoldable pub carriedOn : Replayer → List ℕ → ℕ → List ℕ → Turned
+unfoldable pub carriedOn : Replayer → List ℕ → ℕ → List ℕ → Turned Replayer
 carriedOn m buf n out = carried m buf n (partOf (m .desk) (m .ordinal) (m .base) (take n buf) out)
 
 -- what a turn does with the bytes held and those got, by what was wanted; a read of nothing is the input's end
-abbrev pub wantedOf : Wants → Replayer → List ℕ → ℕ → List ℕ → Turned
+abbrev pub wantedOf : Wants → Replayer → List ℕ → ℕ → List ℕ → Turned Replayer
 wantedOf Read m buf got out = cond (eqb got 0) (beside buf (lastOf m out)) (carriedOn m buf (m .held + got) out)
 wantedOf Again m buf got out = carriedOn m buf (m .held + got) out
 wantedOf End m buf got out = (ended m, (written 0, (buf, out)))
 
--- a refused turn changes nothing
-abbrev pub unlessRefused : Fault → Replayer → List ℕ → List ℕ → Turned → Turned
-unlessRefused good m buf out turned = turned
-unlessRefused (fails x) m buf out turned = (m, (refused x, (buf, out)))
+-- a replay is work in pieces: a turn wants a buffer of 73 bytes or more and an output of 1,024 or more
+abbrev pub replaying : Work Replayer
+replaying =
+    record {
+      held = λ m. m .held;
+      wants = λ m. m .wants;
+      fault = λ m. turnFault (m .held);
+      does = λ m. wantedOf (m .wants) m;
+      buffer = head + longest;
+      output = rowRoom;
+    }
 
-unfoldable pub turnOf : Replayer → List ℕ → ℕ → List ℕ → Turned
-turnOf m buf got out = unlessRefused (turnFault (m .held) (length buf) got (length out)) m buf out (wantedOf (m .wants) m buf got out)
+abbrev pub turnOf : Replayer → List ℕ → ℕ → List ℕ → Turned Replayer
+turnOf m buf got out = turnBy replaying m buf got out

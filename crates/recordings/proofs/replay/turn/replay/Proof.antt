@@ -1,5 +1,7 @@
 -- `replay` checks 15 and 14, and does what was wanted. Assumes nothing.
-use Rattle.recordings.proofs.Turning.{refused-turn, wanted, some-read, none-read, none-wanted}
+use Rattle.pieces.proofs.Runs.{refused-turn}
+use Rattle.recordings.specs.Replay.Turn.{replaying}
+use Rattle.recordings.proofs.Turning.{wanted, some-read, none-read, none-wanted}
 use Rattle.recordings.proofs.Checks.{fits}
 use Rattle.pieces.specs.declared.wants.Wants.the-variants.{Read, Again, End}
 use Rattle.records.specs.Answers.{faultOf}
@@ -13,7 +15,7 @@ use Rattle.recordings.proofs.replay.turn.replay.Tie as tie
 returns : tie.Need-returns
 returns c =
     let a = c .before .before .before .before .before .before .args in
-    refused-turn (a .replayer) (now (a .buf)) (a .got) (now (a .out)) _ (sym (ap faultOf (c .before .check .given .1)) ∙ c .before .before .before .turn-check .ensures)
+    refused-turn replaying (a .replayer) (now (a .buf)) (a .got) (now (a .out)) _ (sym (ap faultOf (c .before .check .given .1)) ∙ c .before .before .before .turn-check .ensures)
 
 enum-told : tie.Need-enum-told
 enum-told c = search needs
