@@ -106,13 +106,13 @@ module _ {S : Type 0} (w : Work S) (left : S → List ℕ → List ℕ) (Fits : 
           settled = rw e (λ q. absurd (d .going q));
         },
         rw e
-        (still
-        (record {
-          held = d .held;
-          on = λ b. append-assoc (s .written) (putBy t) _ ∙ (ap (λ (y : List ℕ). s .written ++ y) (d .rest b) ∙ onwards b);
-          fits = d .fits;
-          going = d .going;
-        })),
+            (still
+            (record {
+              held = d .held;
+              on = λ b. append-assoc (s .written) (putBy t) _ ∙ (ap (λ (y : List ℕ). s .written ++ y) (d .rest b) ∙ onwards b);
+              fits = d .fits;
+              going = d .going;
+            })),
       )
       made t e h (over q p) =
           let all : (b : List ℕ) → s .written ++ putBy t ≡ f ((s .read ++ g .piece) ++ b) = λ b. ap (λ (y : List ℕ). s .written ++ y) (p b) ∙ onwards b in
