@@ -30,7 +30,6 @@ use Rattle.captures.specs.Lister.{atFirst, placeFits, lineFor, lineTask,
 use Rattle.captures.specs.Turn.{unnamed, doneBy, listing}
 use Rattle.captures.specs.Runs.{begun, WholeListing, EachTurn, RoomToRead}
 use Rattle.captures.proofs.Shifts.{lines-further}
-use Rattle.captures.proofs.Checks.{all-fits, passes}
 use Rattle.captures.proofs.Going.{left, known-line, left-lines, Lists, Fits, opening, lists, went}
 
 -- a digit that names no line, and one that does
@@ -95,15 +94,11 @@ module _ (buf : List ℕ) (got : ℕ) (out : List ℕ) (l : 0 + got ≤ length b
 
 steps : Steps listing left Fits
 unfolding placeFits
-steps m buf got out (opening e) going l b space =
+steps m buf got out (opening e) going l space =
     let n : 0 + got ≤ length buf = rw e at l in
-    rw e (
-      passes atFirst (length buf) got (length out) (all-fits atFirst (length buf) got refl (omega arith) (omega arith)) space b,
-      first-made buf got out n space (take (0 + got) buf) refl (omega (arith, length-take-le (0 + got) buf n)),
-    )
-steps m buf got out (lists f) going l b space =
-    let p : placeFits m ≡ true = rw (ne-eqb (m .line) 0 (known-line (m .line) (f .known)), f .known, le-leb (m .next) (m .held) (f .place)) in
-    (passes m (length buf) got (length out) (all-fits m (length buf) got p (omega arith) (omega arith)) space b, by-wants m buf got out l space f (m .wants) refl going)
+    rw e (refl, first-made buf got out n space (take (0 + got) buf) refl (omega (arith, length-take-le (0 + got) buf n)))
+steps m buf got out (lists f) going l space =
+    (rw (ne-eqb (m .line) 0 (known-line (m .line) (f .known)), f .known, le-leb (m .next) (m .held) (f .place)), by-wants m buf got out l space f (m .wants) refl going)
 
 begins : (buf : List ℕ) → On listing left Fits steps listingOf (begun buf)
 unfolding left

@@ -2,15 +2,15 @@
 use Prim.Native.Nat.{ℕ, _-_, _^_}
 use mathlib.Core.Bool.{Bool, cond}
 use mathlib.Core.List.{List}
-use lib.Dec.{ltb, leb, eqb}
+use lib.Dec.{leb, eqb}
 use lib.ListN.{getD}
-use Rattle.laws.specs.Truth.{both, either}
+use Rattle.laws.specs.Truth.{both}
 use Rattle.characters.specs.Marks.{longest}
 use Rattle.forms.specs.Lines.{isLine}
-use Rattle.records.specs.Refusals.{no}
-use Rattle.records.specs.Answers.{Fault, good, fails}
+use Rattle.records.specs.Answers.{Fault}
 use Rattle.captures.specs.Listing.{lineRoom}
 use Rattle.pieces.specs.Line.{lineNamed}
+use Rattle.pieces.specs.Turns.{roomFault}
 use Rattle.captures.specs.declared.lister.Lister.{Lister}
 use Rattle.captures.specs.declared.lister.Task.{Task}
 use Rattle.captures.specs.declared.lister.Task.the-variants.{Lists, Unnamed, Over}
@@ -25,13 +25,10 @@ atFirst = record { line = 0; held = 0; next = 1; ordinal = 1; base = 2 ^ 64 - 1;
 unfoldable pub placeFits : Lister → Bool
 placeFits m = cond (eqb (m .line) 0) (both (eqb (m .held) 0) (eqb (m .next) 1)) (both (isLine (m .line)) (leb (m .next) (m .held)))
 
--- line and place fit; the bytes held, and those got behind them, are in the buffer
-unfoldable pub inRanges : Lister → ℕ → ℕ → Bool
-inRanges m len got = both (placeFits m) (both (leb (m .held) len) (leb got (len - m .held)))
-
--- 15 where the state is out of its ranges; then 14 where the output has no room for a line, or the buffer none for a byte behind an unfinished telegram
-unfoldable pub listFault : Lister → ℕ → ℕ → ℕ → Fault
-listFault m len got room = cond (inRanges m len got) (cond (either (ltb room lineRoom) (ltb len longest)) (fails (no 14 0)) good) (fails (no 15 0))
+-- 15 where line and place do not fit, or the bytes held and got are not in the buffer; then 14 where the output has no room for a line, or the buffer none for a
+-- byte behind an unfinished telegram
+abbrev pub listFault : Lister → ℕ → ℕ → ℕ → Fault
+listFault m len got room = roomFault (placeFits m) (m .held) longest lineRoom len got room
 
 -- the line: the state's, or the one that the first byte names; 0 where that names none or there is no byte
 unfoldable pub lineFor : Lister → List ℕ → ℕ

@@ -16,7 +16,7 @@ use Rattle.captures.specs.declared.lister.Lister.{Lister}
 use Rattle.captures.specs.declared.lister.Task.{Task}
 use Rattle.captures.specs.declared.lister.Task.the-variants.{Lists, Unnamed, Over}
 use Rattle.pieces.specs.declared.wants.Wants.the-variants.{Read, Again}
-use Rattle.captures.specs.Lister.{listFault, taskFor, ended}
+use Rattle.captures.specs.Lister.{placeFits, taskFor, ended}
 use Rattle.pieces.specs.Line.{badLine}
 
 -- the output is full: the n bytes stay, and the listing goes on among them
@@ -54,7 +54,7 @@ wantedOf m buf got out = doneBy (taskFor (m .wants) m got (take (m .held + got) 
 
 -- a listing is work in pieces: a turn wants a buffer of 66 bytes or more and an output of 87 or more
 abbrev pub listing : Work Lister
-listing = record { held = λ m. m .held; wants = λ m. m .wants; fault = listFault; does = wantedOf; buffer = longest; output = lineRoom }
+listing = record { fits = placeFits; held = λ m. m .held; wants = λ m. m .wants; does = wantedOf; buffer = longest; output = lineRoom }
 
 -- a turn: got bytes were read behind those held, and lines are put from the front of the output
 abbrev pub listOf : Lister → List ℕ → ℕ → List ℕ → Turned Lister

@@ -1,4 +1,5 @@
 pub mod Kept
 pub mod Moved
 pub mod Named
+pub mod Checks
 pub mod Runs

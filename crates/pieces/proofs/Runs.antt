@@ -1,6 +1,7 @@
 -- Over any run of a work, what is written at its end is f of all that was read: each turn puts a part of what is left, and leaves the rest (rules P5, Q14).
 -- Assumes nothing.
 use mathlib.Core.Path.{_≡_, refl, sym, ap, _∙_}
+use mathlib.Core.Bool.{true}
 use mathlib.Core.List.{List, [], _∷_, _++_, append-nil, append-assoc}
 use Prim.Native.Nat.{ℕ, _+_, _≤_, _<_}
 use native.Mathlib.Omega.{arith}
@@ -9,16 +10,17 @@ use lib.Seq.{take-at, length-take-le}
 use Rattle.records.specs.Refusals.{No}
 use Rattle.records.specs.Answers.{good, fails, refused}
 use Rattle.pieces.specs.declared.wants.Wants.the-variants.{Read, Again, End}
-use Rattle.pieces.specs.Turns.{Turned, Work, turnBy}
+use Rattle.pieces.specs.Turns.{Turned, Work, faultBy, turnBy}
+use Rattle.pieces.proofs.Checks.{passes}
 use Rattle.pieces.specs.Runs.{Stand, Given, putBy, heldIn, bufferOf, stepOf, nextStand, MayTurn, standAfter, MayRun, Whole, GoodTurn, Turns, Room}
 
 -- a turn that is refused, and one that is not
 module _ {S : Type 0} (w : Work S) (m : S) (buf : List ℕ) (got : ℕ) (out : List ℕ) where
-  pub refused-turn : (x : No) → fails x ≡ w .fault m (length buf) got (length out) → (m, (refused x, (buf, out))) ≡ turnBy w m buf got out
+  pub refused-turn : (x : No) → fails x ≡ faultBy w m (length buf) got (length out) → (m, (refused x, (buf, out))) ≡ turnBy w m buf got out
   unfolding turnBy
   refused-turn x h = rw (← h)
 
-  pub wanted : (t : Turned S) → good ≡ w .fault m (length buf) got (length out) → t ≡ w .does m buf got out → t ≡ turnBy w m buf got out
+  pub wanted : (t : Turned S) → good ≡ faultBy w m (length buf) got (length out) → t ≡ w .does m buf got out → t ≡ turnBy w m buf got out
   unfolding turnBy
   wanted t f e = rw (← f) e
 
@@ -57,11 +59,11 @@ module _ {S : Type 0} (w : Work S) (left : S → List ℕ → List ℕ) (Fits : 
     over : w .wants (t .0) ≡ End → ((b : List ℕ) → putBy t ≡ left m (hand ++ b)) → Does m hand got t
     last : w .wants (t .0) ≡ End → got ≡ 0 → putBy t ≡ left m hand → Does m hand got t
 
-  -- each turn that may be made is not refused, and does one of these
+  -- a state that goes on is in its ranges, and each turn that may be made does one of these
   abbrev pub Steps : Type 0
   Steps =
-      (m : S) (buf : List ℕ) (got : ℕ) (out : List ℕ) → Fits m (take (w .held m) buf) → (w .wants m ≡ End → ⊥) → w .held m + got ≤ length buf → w .buffer ≤ length buf
-      → w .output ≤ length out → (good ≡ w .fault m (length buf) got (length out)) × Does m (take (w .held m + got) buf) got (w .does m buf got out)
+      (m : S) (buf : List ℕ) (got : ℕ) (out : List ℕ) → Fits m (take (w .held m) buf) → (w .wants m ≡ End → ⊥) → w .held m + got ≤ length buf → w .output ≤ length out
+      → (w .fits m ≡ true) × Does m (take (w .held m + got) buf) got (w .does m buf got out)
 
   module _ (steps : Steps) (f : List ℕ → List ℕ) where
     -- where a run stands that goes on: what is written, and what is left of the bytes held and any bytes behind them, is f of all that was read and these
@@ -85,7 +87,7 @@ module _ {S : Type 0} (w : Work S) (left : S → List ℕ → List ℕ) (Fits : 
       all-now = rw (append-nil (heldIn w s ++ g .piece), append-nil (s .read ++ g .piece)) at (onwards [])
 
       abbrev Taken : Type 0
-      Taken = good ≡ w .fault (s .state) (length (bufferOf w s g)) (length (g .piece)) (length (g .out))
+      Taken = good ≡ faultBy w (s .state) (length (bufferOf w s g)) (length (g .piece)) (length (g .out))
 
       ends : (t : Turned S) → stepOf w s g ≡ t → Taken → w .wants (t .0) ≡ End
           → (0 < length (g .piece) → (more : List ℕ) → s .written ++ putBy t ≡ f ((s .read ++ g .piece) ++ more)) → GoodTurn w f s g
@@ -124,11 +126,10 @@ module _ {S : Type 0} (w : Work S) (left : S → List ℕ → List ℕ) (Fits : 
     turned s g o may =
         let m = s .state in
         let n = w .held (s .state) in
-        let t =
-        steps m (bufferOf w s g) (length (g .piece)) (g .out) (rw (still-held n (s .buf) (g .piece) (g .rest) (o .held)) (o .fits)) (may .going)
-        (in-buffer n (s .buf) (g .piece) (g .rest) (o .held)) (may .buffer) (may .output) in
-        made s g o _ (sym (wanted w m (bufferOf w s g) (length (g .piece)) (g .out) _ (t .0) refl)) (t .0)
-        (rw (at-hand n (s .buf) (g .piece) (g .rest) (o .held)) at (t .1))
+        let l = in-buffer n (s .buf) (g .piece) (g .rest) (o .held) in
+        let t = steps m (bufferOf w s g) (length (g .piece)) (g .out) (rw (still-held n (s .buf) (g .piece) (g .rest) (o .held)) (o .fits)) (may .going) l (may .output) in
+        let h = passes (w .fits m) n (w .buffer) (w .output) _ _ _ (record { state = t .0; bytes = l; space = may .output; whole = may .buffer }) in
+        made s g o _ (sym (wanted w m (bufferOf w s g) (length (g .piece)) (g .out) _ h refl)) h (rw (at-hand n (s .buf) (g .piece) (g .rest) (o .held)) at (t .1))
 
     holds-after : (gs : List Given) (s : Stand S) → Holds s → MayRun w s gs → Holds (standAfter w s gs)
     holds-after [] s h may = h

@@ -5,7 +5,7 @@ use Prim.Native.Nat.{ℕ, _≤_, _<_}
 use lib.ListN.{length, take}
 use Rattle.records.specs.Answers.{good, Outcome, written, refused}
 use Rattle.pieces.specs.declared.wants.Wants.the-variants.{Read, Again, End}
-use Rattle.pieces.specs.Turns.{Turned, Work, turnBy}
+use Rattle.pieces.specs.Turns.{Turned, Work, faultBy, turnBy}
 
 -- where a run stands: the state and the buffer that a turn left, all bytes that were read and all that were written
 pub record Stand (S : Type 0) : Type 0 where
@@ -74,7 +74,7 @@ module _ {S : Type 0} (w : Work S) where
   -- of each turn: it is not refused; it is to be made again only where it wrote something; a read of nothing ends the run; else it ends only where f would be
   -- the same whatever was read behind
   pub record GoodTurn (f : List ℕ → List ℕ) (s : Stand S) (g : Given) : Type 0 where
-    pub taken : good ≡ w .fault (s .state) (length (bufferOf s g)) (length (g .piece)) (length (g .out))
+    pub taken : good ≡ faultBy w (s .state) (length (bufferOf s g)) (length (g .piece)) (length (g .out))
     pub again : w .wants (nextStand s g .state) ≡ Again → length (s .written) < length (nextStand s g .written)
     pub over : w .wants (s .state) ≡ Read → g .piece ≡ [] → w .wants (nextStand s g .state) ≡ End
     pub settled : w .wants (nextStand s g .state) ≡ End → 0 < length (g .piece) → (more : List ℕ) → nextStand s g .written ≡ f (nextStand s g .read ++ more)

@@ -35,7 +35,6 @@ use Rattle.recordings.specs.Replay.State.{begunOn, wantsFor}
 use Rattle.recordings.specs.Replay.Turn.{ended, lastOf, behind, carried, carriedOn, wantedOf, replaying}
 use Rattle.recordings.specs.Replay.Whole.{replayOn}
 use Rattle.recordings.specs.Replay.Runs.{begun, WholeReplay, EachTurn, RoomToRead}
-use Rattle.recordings.proofs.Checks.{passes}
 use Rattle.recordings.proofs.Parts.{in-parts}
 
 -- what is left to be written: the rows of the bytes at hand
@@ -131,8 +130,7 @@ module _ (m : Replayer) (buf : List ℕ) (got : ℕ) (out : List ℕ) (l : m .he
   by-wants f Read q going = on-test (eqb got 0) (λ z. rw z (last-made f q (eqb-true got 0 z))) (λ z. rw z (carry (λ r. eqb-false got 0 z)))
 
 steps : Steps replaying left Fits
-steps m buf got out f going l b space =
-    (passes (m .held) (length buf) got (length out) (record { bytes = l; row = space; whole = b }), by-wants m buf got out l space f (m .wants) refl going)
+steps m buf got out f going l space = (refl, by-wants m buf got out l space f (m .wants) refl going)
 
 begins : (line : ℕ) (buf : List ℕ) → On replaying left Fits steps (replayOn line) (begun line buf)
 unfolding begunOn replayOn

@@ -2,7 +2,6 @@ pub mod Sent
 pub mod Cut
 pub mod Step
 pub mod Parts
-pub mod Checks
 pub mod Turning
 pub mod EachTurn
 pub mod Opened

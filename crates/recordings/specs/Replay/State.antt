@@ -1,12 +1,10 @@
 -- The state of a replay between two turns, and what refuses a turn (rules Q9, Q14). Assumes nothing.
-use mathlib.Core.Bool.{cond}
-use Prim.Native.Nat.{ℕ, _+_, _-_}
-use lib.Dec.{ltb}
-use Rattle.laws.specs.Truth.{either}
+use mathlib.Core.Bool.{true}
+use Prim.Native.Nat.{ℕ, _+_}
 use Rattle.characters.specs.Marks.{longest}
-use Rattle.records.specs.Refusals.{no}
-use Rattle.records.specs.Answers.{Fault, good, fails}
+use Rattle.records.specs.Answers.{Fault}
 use Rattle.desk.specs.State.{startOf}
+use Rattle.pieces.specs.Turns.{roomFault}
 use Rattle.pieces.specs.declared.wants.Wants.{Wants}
 use Rattle.pieces.specs.declared.wants.Wants.the-variants.{Read, Again, End}
 use Rattle.logs.specs.Records.{head}
@@ -20,9 +18,8 @@ unfoldable pub begunOn : ℕ → Replayer
 begunOn line = record { desk = startOf line .0; ordinal = 1; base = 0; held = 0; wants = Read }
 
 -- 15 where the bytes held and got are not in the buffer; then 14 where the output has no room for a row, or the buffer none for a whole record
-unfoldable pub turnFault : ℕ → ℕ → ℕ → ℕ → Fault
-turnFault held len got room =
-    cond (either (ltb len held) (ltb (len - held) got)) (fails (no 15 0)) (cond (either (ltb room rowRoom) (ltb len (head + longest))) (fails (no 14 0)) good)
+abbrev pub turnFault : ℕ → ℕ → ℕ → ℕ → Fault
+turnFault held len got room = roomFault true held (head + longest) rowRoom len got room
 
 -- what a replay wants behind a part of its log: the next turn where the output is full, bytes where it waits for them, or nothing more
 abbrev pub wantsFor : Stop → Wants

@@ -1,5 +1,5 @@
 -- A turn of a replay (rules Q9 to Q14). Assumes nothing.
-use mathlib.Core.Bool.{cond}
+use mathlib.Core.Bool.{true, cond}
 use mathlib.Core.List.{List}
 use Prim.Native.Nat.{ℕ, _+_, _-_}
 use lib.Dec.{eqb}
@@ -18,7 +18,7 @@ use Rattle.logs.specs.Records.{head}
 use Rattle.recordings.specs.Replay.Texts.{rowRoom, cut, refusedText}
 use Rattle.recordings.specs.Replay.Part.{partOf}
 use Rattle.recordings.specs.declared.replay.state.Replayer.{Replayer}
-use Rattle.recordings.specs.Replay.State.{begunOn, turnFault, wantsFor}
+use Rattle.recordings.specs.Replay.State.{begunOn, wantsFor}
 
 -- all is said
 abbrev pub ended : Replayer → Replayer
@@ -54,15 +54,7 @@ wantedOf End m buf got out = (ended m, (written 0, (buf, out)))
 
 -- a replay is work in pieces: a turn wants a buffer of 73 bytes or more and an output of 1,024 or more
 abbrev pub replaying : Work Replayer
-replaying =
-    record {
-      held = λ m. m .held;
-      wants = λ m. m .wants;
-      fault = λ m. turnFault (m .held);
-      does = λ m. wantedOf (m .wants) m;
-      buffer = head + longest;
-      output = rowRoom;
-    }
+replaying = record { fits = λ m. true; held = λ m. m .held; wants = λ m. m .wants; does = λ m. wantedOf (m .wants) m; buffer = head + longest; output = rowRoom }
 
 abbrev pub turnOf : Replayer → List ℕ → ℕ → List ℕ → Turned Replayer
 turnOf m buf got out = turnBy replaying m buf got out

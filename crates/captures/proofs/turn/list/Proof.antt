@@ -4,8 +4,8 @@ use native.Mathlib.Omega.{arith}
 use denote.Ref.{now}
 use Rattle.records.specs.Answers.{faultOf, written}
 use Rattle.captures.specs.declared.lister.Lister.{Lister}
-use Rattle.captures.proofs.Checks.{held-within, in-range}
 use Rattle.pieces.specs.Turns.{Turned, beside}
+use Rattle.pieces.proofs.Checks.{passing}
 use Rattle.pieces.proofs.Runs.{refused-turn}
 use Rattle.captures.specs.Turn.{listing}
 use Rattle.captures.proofs.Turning.{tasked}
@@ -24,8 +24,7 @@ enum-told c = search needs
 add-n : tie.Need-add-n
 add-n c =
     let a = c .before .before .before .before .before .before .args in
-    let g = in-range (a .lister) _ (a .got) _ (sym (ap faultOf (c .before .enum-told .given .1)) ∙ c .before .before .before .list-check .ensures) in
-    omega (arith, held-within (a .lister) _ (a .got) g)
+    omega (arith, passing _ (a .lister .held) _ _ _ (a .got) _ (sym (ap faultOf (c .before .enum-told .given .1)) ∙ c .before .before .before .list-check .ensures) .bytes)
 
 returns-2 : tie.Need-returns-2
 returns-2 c =

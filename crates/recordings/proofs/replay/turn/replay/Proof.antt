@@ -2,7 +2,7 @@
 use Rattle.pieces.proofs.Runs.{refused-turn}
 use Rattle.recordings.specs.Replay.Turn.{replaying}
 use Rattle.recordings.proofs.Turning.{wanted, some-read, none-read, none-wanted}
-use Rattle.recordings.proofs.Checks.{fits}
+use Rattle.pieces.proofs.Checks.{passing}
 use Rattle.pieces.specs.declared.wants.Wants.the-variants.{Read, Again, End}
 use Rattle.records.specs.Answers.{faultOf}
 use denote.Ref.{now}
@@ -23,7 +23,7 @@ enum-told c = search needs
 add-n : tie.Need-add-n
 add-n c =
     let a = c .before .before .before .before .before .before .args in
-    let f = fits (a .replayer .held) _ (a .got) _ (sym (ap faultOf (c .before .enum-told .given .1)) ∙ c .before .before .before .turn-check .ensures) in
+    let f = passing _ (a .replayer .held) _ _ _ (a .got) _ (sym (ap faultOf (c .before .enum-told .given .1)) ∙ c .before .before .before .turn-check .ensures) in
     omega (arith, f .bytes)
 
 last-requires : tie.Need-last-requires
@@ -31,7 +31,7 @@ last-requires c κs =
     let a = c .before .before .before .before .before .before .before .before .before .before .args in
     let turn-check = c .before .before .before .before .before .before .before .turn-check in
     let enum-told = c .before .before .before .before .before .enum-told in
-    fits (a .replayer .held) _ (a .got) _ (sym (ap faultOf (enum-told .given .1)) ∙ turn-check .ensures) .row
+    passing _ (a .replayer .held) _ _ _ (a .got) _ (sym (ap faultOf (enum-told .given .1)) ∙ turn-check .ensures) .space
 
 returns-2 : tie.Need-returns-2
 returns-2 c =
