@@ -121,7 +121,7 @@ module _ (m : Lister) (line : ℕ) (buf : List ℕ) (n got : ℕ) (out : List �
           fits = lists (record { known = known; place = omega arith; idle = λ q. (rw e (kept-none line (m .base) (take n buf) (m .next) (m .ordinal) out within r x f d n size), omega arith) });
           some = some;
           going = λ q. let z : _≡_ {A = ℕ} 0 1 = cc in omega arith;
-          again = λ q. let z : _≡_ {A = ℕ} 0 1 = cc in let y : ⊥ = omega arith in absurd y;
+          again = λ q. let z : _≡_ {A = ℕ} 0 1 = cc in absurd (omega arith);
         }
 
     among : r .done ≡ false → GoesOn (again m line r n, (written (r .filled), (buf, x)))
@@ -129,7 +129,7 @@ module _ (m : Lister) (line : ℕ) (buf : List ℕ) (n got : ℕ) (out : List �
         record {
           held = h;
           rest = λ b. put-and-left b _ (left-lines _ _ known);
-          fits = lists (record { known = known; place = reached; idle = λ q. let z : _≡_ {A = ℕ} 0 1 = cc in let y : ⊥ = omega arith in absurd y });
+          fits = lists (record { known = known; place = reached; idle = λ q. let z : _≡_ {A = ℕ} 0 1 = cc in absurd (omega arith) });
           some = some;
           going = λ q. let z : _≡_ {A = ℕ} 0 1 = cc in omega arith;
           again = λ q. omega (arith, f .some d (omega arith), length-take-le (r .filled) x (f .reach .1));

@@ -94,7 +94,7 @@ module _ {S : Type 0} (w : Work S) (left : S → List ℕ → List ℕ) (Fits : 
       ends t e h q p =
           record {
             taken = h;
-            again = rw e (λ r. let z : _≡_ {A = ℕ} 0 1 = cc in let y : ⊥ = omega arith in absurd y);
+            again = rw e (λ r. let z : _≡_ {A = ℕ} 0 1 = cc in absurd (omega arith));
             over = λ r z. rw e q;
             settled = rw e (λ r. p);
           }
@@ -157,4 +157,4 @@ module _ {S : Type 0} (w : Work S) (left : S → List ℕ → List ℕ) (Fits : 
         where
           go : (y : Stand S) → Holds y → w .wants (y .state) ≡ Read → w .held (y .state) < w .buffer
           go y (still n) q = few (y .state) (heldIn w y) (n .fits) (length-take-le _ (y .buf) (n .held)) q
-          go y (ended e p) q = let r : Read ≡ End = sym q ∙ e in let z : _≡_ {A = ℕ} 0 1 = cc in let x : ⊥ = omega arith in absurd x
+          go y (ended e p) q = let r : Read ≡ End = sym q ∙ e in let z : _≡_ {A = ℕ} 0 1 = cc in absurd (omega arith)

@@ -16,8 +16,7 @@ use Rattle.desk.specs.declared.state.Desk.{Desk}
 use Rattle.logs.specs.Records.{LogRecord}
 use Rattle.logs.specs.Whole.{Log, Ending, over, refusal, sizeOf, logOf, waitsAt}
 use Rattle.logs.proofs.Pieces.{stands, first-of}
-use Rattle.recordings.specs.declared.replay.part.Stop.{Stop}
-use Rattle.recordings.specs.declared.replay.part.Stop.the-variants.{Goes, Full, Waits, Over}
+use Rattle.recordings.specs.declared.replay.part.Stop.the-variants.{Full, Waits, Over}
 use Rattle.recordings.specs.declared.replay.part.Replayed.{Replayed}
 use Rattle.recordings.specs.Replay.Texts.{rowRoom, cut, rowAt, refusedText, textOn, textOf}
 use Rattle.recordings.specs.Replay.Part.{stopped, endIn, partIn, partOf}
@@ -26,16 +25,6 @@ use Rattle.recordings.specs.Replay.Pieces.{InParts}
 -- one offset further on
 further-on : (base place n : ℕ) → wrapped (wrapped (base + place) + n) ≡ wrapped (base + (place + n))
 further-on base place n = omega arith
-
--- an ending is none of the others
-not-over : {A : Type 0} (x : Stop) → (x ≡ Over → ⊥) → x ≡ Over → A
-not-over x n e = absurd (n e)
-
-abbrev tagged : Stop → ℕ
-tagged Goes = 0
-tagged Full = 1
-tagged Waits = 2
-tagged Over = 3
 
 module _ (base : ℕ) (s : List ℕ) where
   -- what is said of a part from a place on, in an output that is filled so far
@@ -53,9 +42,9 @@ module _ (base : ℕ) (s : List ℕ) where
     full-here short =
         record {
           on = λ n b. refl;
-          over = λ e. let z : _≡_ {A = ℕ} 1 3 = ap tagged e in let y : ⊥ = omega (arith, z) in absurd y;
+          over = λ e. let z : _≡_ {A = ℕ} 0 1 = cc in absurd (omega arith);
           within = λ h. h;
-          waits = λ e. let z : _≡_ {A = ℕ} 1 2 = ap tagged e in let y : ⊥ = omega (arith, z) in absurd y;
+          waits = λ e. let z : _≡_ {A = ℕ} 0 1 = cc in absurd (omega arith);
           full = λ w o l. omega (arith, length-take filled out);
         }
 
@@ -63,7 +52,7 @@ module _ (base : ℕ) (s : List ℕ) where
     waits-here ending e w =
         record {
           on = λ n b. refl;
-          over = λ q. let z : _≡_ {A = ℕ} 2 3 = ap tagged q in let y : ⊥ = omega (arith, z) in absurd y;
+          over = λ q. let z : _≡_ {A = ℕ} 0 1 = cc in absurd (omega arith);
           within = λ h. h;
           waits = λ q. (ap (λ (l : Log). l .0) e, ap (λ (l : Log). waitsAt (l .1)) e ∙ w);
           full = λ n. absurd (n refl);
@@ -82,7 +71,7 @@ module _ (base : ℕ) (s : List ℕ) where
               put-take (cut (refusedText number (wrapped (base + place)))) out filled h
               ∙ ap (λ (l : Log). take filled out ++ textOf d ordinal (wrapped (base + place)) l) (sym (stands (drop place s) b (ap (λ (l : Log). waitsAt (l .1)) e ∙ q) ∙ e));
           within = λ k. k;
-          waits = λ x. let z : _≡_ {A = ℕ} 3 2 = ap tagged x in let y : ⊥ = omega (arith, z) in absurd y;
+          waits = λ x. let z : _≡_ {A = ℕ} 0 1 = cc in absurd (omega arith);
           full = λ w n. absurd (n refl);
         }
 
