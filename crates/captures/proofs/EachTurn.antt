@@ -1,5 +1,4 @@
--- Over any run of the listing, what is written at its end is the listing of all that was read (rule P5): a turn goes on, or it has put all that is left.
--- Assumes nothing.
+-- Each turn of the listing goes on or has put all that is left, so that at the end of any run the listing of all is written (rule P5). Assumes nothing.
 use mathlib.Core.Path.{_≡_, refl, sym, _∙_}
 use mathlib.Core.Bool.{true}
 use mathlib.Core.List.{List, [], _∷_, _++_}

@@ -1,5 +1,4 @@
--- Over any run of a work, what is written at its end is f of all that was read: each turn puts a part of what is left, and leaves the rest (rules P5, Q14).
--- Assumes nothing.
+-- A work whose turns each put a part of what is left, and leave the rest, has at its end written f of all that was read (rules P5, Q14). Assumes nothing.
 use mathlib.Core.Path.{_≡_, refl, sym, ap, _∙_}
 use mathlib.Core.Bool.{true}
 use mathlib.Core.List.{List, [], _∷_, _++_, append-nil, append-assoc}
@@ -42,7 +41,8 @@ module _ (n : ℕ) (buf piece rest : List ℕ) (h : n ≤ length buf) where
   in-buffer : n + length piece ≤ length (take n buf ++ (piece ++ rest))
   in-buffer = rw (length-append (take n buf) (piece ++ rest), length-append piece rest, length-take-le n buf h) (omega arith)
 
--- a work, with what is left to be written by a state and the bytes at hand, and with what holds of a state that goes on and of the bytes that it holds
+-- a work, with what is left to be written by a state and the bytes at hand, and with what holds of a state that goes on and of the bytes that it holds: where
+-- `Steps` is shown of it, and `On` of where its runs begin, `whole-run`, `good-turns` and `room` follow
 module _ {S : Type 0} (w : Work S) (left : S → List ℕ → List ℕ) (Fits : S → List ℕ → Type 0) where
   -- a turn goes on: what it puts and what is then left is what was left, whatever comes behind
   pub record Goes (m : S) (hand : List ℕ) (got : ℕ) (t : Turned S) : Type 0 where

@@ -1,5 +1,4 @@
--- Over any run of a replay, what is written at its end is the replay of all that was read (rule Q14): a turn goes on, or it has put all that is left.
--- Assumes nothing.
+-- Each turn of a replay goes on or has put all that is left, so that at the end of any run the replay of all is written (rule Q14). Assumes nothing.
 use mathlib.Core.Path.{_≡_, refl, sym, ap, _∙_}
 use mathlib.Core.Bool.{true}
 use mathlib.Core.List.{List, []}
