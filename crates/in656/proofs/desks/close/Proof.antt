@@ -12,9 +12,10 @@ returns c =
     let if1 = c .before .before .before .before .before .if1 in
     rw (c .before .before .save .ensures, ← (of-outcome .ensures), eq-eqb _ _ (if1 .taken))
 
-returns-2 : tie.Need-returns-2
-unfolding stepped deskAfter
-returns-2 c = rw (← (c .before .before .of-outcome .ensures), ne-eqb _ _ (c .if1 .left))
-
 pub close-spec : {M : Type 1} → statement M
-close-spec = tie.close (tie.spec (λ c κs. search needs) (λ c κs. search needs) (λ c. search needs) returns returns-2)
+unfolding stepped deskAfter
+close-spec =
+    tie.close
+    (tie.spec
+    (λ c κs. search needs) (λ c κs. search needs) (λ c. search needs) returns
+    (λ c. rw (← (c .before .before .of-outcome .ensures), ne-eqb _ _ (c .if1 .left))))

@@ -12,5 +12,4 @@ returns-2 : tie.Need-returns-2
 returns-2 c = other-source (c .before .before .args .source) (now (c .before .before .args .block)) (c .match .keys2)
 
 pub put-panel-spec : {M : Type 1} → statement M
-put-panel-spec =
-    tie.close (tie.spec (λ c. search needs) (λ c κs. search needs) (λ c. search needs) returns returns-2)
+put-panel-spec = tie.close (tie.spec (λ c. search needs) (λ c κs. search needs) (λ c. search needs) returns returns-2)

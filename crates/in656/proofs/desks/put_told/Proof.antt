@@ -12,5 +12,4 @@ returns-2 : tie.Need-returns-2
 returns-2 c = other-heard (c .before .before .args .answer) (now (c .before .before .args .block)) (c .match .keys2)
 
 pub put-told-spec : {M : Type 1} → statement M
-put-told-spec =
-    tie.close (tie.spec (λ c. search needs) (λ c κs. search needs) (λ c. search needs) returns returns-2)
+put-told-spec = tie.close (tie.spec (λ c. search needs) (λ c κs. search needs) (λ c. search needs) returns returns-2)

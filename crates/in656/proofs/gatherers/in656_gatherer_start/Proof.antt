@@ -5,10 +5,6 @@ use borrow.Author.Needs.{needs}
 use Rattle.in656.proofs.gatherers.in656_gatherer_start.Statement.{statement}
 use Rattle.in656.proofs.gatherers.in656_gatherer_start.Tie as tie
 
-returns : tie.Need-returns
-unfolding gathererStart
-returns c = rw (c .refuse .ensures, ne-eqb _ _ (c .before .if1 .taken))
-
 returns-2 : tie.Need-returns-2
 unfolding gathererStart
 returns-2 c =
@@ -18,7 +14,9 @@ returns-2 c =
     rw (c .done .ensures, save .ensures, start .ensures, eq-eqb _ _ (if1 .left))
 
 pub in656-gatherer-start-spec : {M : Type 1} → statement M
+unfolding gathererStart
 in656-gatherer-start-spec =
     tie.close
     (tie.spec
-    (λ c κs. search needs) returns (λ c κs. search needs) (λ c κs. search needs) (λ c κs. search needs) (λ c. search needs) returns-2)
+    (λ c κs. search needs) (λ c. rw (c .refuse .ensures, ne-eqb _ _ (c .before .if1 .taken))) (λ c κs. search needs) (λ c κs. search needs)
+    (λ c κs. search needs) (λ c. search needs) returns-2)

@@ -5,13 +5,9 @@ use borrow.Author.Needs.{needs}
 use Rattle.in656.proofs.inputs.line_for.Statement.{statement}
 use Rattle.in656.proofs.inputs.line_for.Tie as tie
 
-returns : tie.Need-returns
-unfolding lineFor
-returns c = rw (c .byte-or .ensures, eq-eqb _ _ (c .before .if1 .taken))
-
-returns-2 : tie.Need-returns-2
-unfolding lineFor
-returns-2 c = rw (ne-eqb _ _ (c .if1 .left))
-
 pub line-for-spec : {M : Type 1} → statement M
-line-for-spec = tie.close (tie.spec (λ c κs. search needs) returns returns-2)
+unfolding lineFor
+line-for-spec =
+    tie.close
+    (tie.spec
+    (λ c κs. search needs) (λ c. rw (c .byte-or .ensures, eq-eqb _ _ (c .before .if1 .taken))) (λ c. rw (ne-eqb _ _ (c .if1 .left))))

@@ -4,9 +4,6 @@ use borrow.Author.Needs.{needs}
 use Rattle.in656.proofs.inputs.out_of_range.Statement.{statement}
 use Rattle.in656.proofs.inputs.out_of_range.Tie as tie
 
-returns : tie.Need-returns
-unfolding outside
-returns c = c .record-of .ensures
-
 pub out-of-range-spec : {M : Type 1} → statement M
-out-of-range-spec = tie.close (tie.spec (λ c κs. search needs) returns)
+unfolding outside
+out-of-range-spec = tie.close (tie.spec (λ c κs. search needs) (λ c. c .record-of .ensures))

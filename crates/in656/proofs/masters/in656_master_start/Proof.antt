@@ -7,5 +7,4 @@ returns : tie.Need-returns
 returns c = rw (c .before .before .close .ensures, c .before .before .before .before .start .ensures, c .before .before .before .before .before .line-for .ensures)
 
 pub in656-master-start-spec : {M : Type 1} → statement M
-in656-master-start-spec =
-    tie.close (tie.spec (λ c κs. search needs) (λ c κs. search needs) (λ c κs. search needs) (λ c. search needs) returns)
+in656-master-start-spec = tie.close (tie.spec (λ c κs. search needs) (λ c κs. search needs) (λ c κs. search needs) (λ c. search needs) returns)
