@@ -1,7 +1,7 @@
 -- A desk's block: its length, and what is loaded of it. Assumes nothing.
 use mathlib.Core.Path.{_≡_, refl, sym, ap, _∙_}
 use mathlib.Core.Bool.{true}
-use mathlib.Core.List.{List, [], _∷_, _++_}
+use mathlib.Core.List.{List, _++_}
 use Prim.Native.Nat.{ℕ, _+_, _*_}
 use native.Mathlib.Omega.{arith}
 use lib.ListN.{length, drop, length-append, length-replicate}
@@ -16,18 +16,14 @@ use Rattle.desk.specs.declared.waiting.Waiting.{Waiting}
 use Rattle.desk.specs.State.{fresh, numbersFit, inRanges}
 use Rattle.desk.specs.declared.state.Desk.{Desk}
 use Rattle.desk.proofs.Ranges.{ranges-parts, kept-most}
-use Rattle.text.specs.Putting.{puts}
-use Rattle.text.proofs.Puts.{then}
 use Rattle.blocks.specs.Layout.{joined, each}
 use Rattle.text.specs.Fours.{fourBytes}
 use Rattle.blocks.specs.Record.{recordLength, Narrow}
 use Rattle.blocks.proofs.Laid.{joined-length, each-back}
 use Rattle.text.proofs.FourBytes.{four-length, four-back}
 use Rattle.blocks.proofs.Found.{record-length, made-again}
-use Rattle.blocks.specs.Heads.{countByte, headBytes}
 use Rattle.blocks.specs.Desks.{places, waitingBytes, waitingOf, waitingAt, setByte, wantedBytes, wantedAt, countBytes, keptBytes, keptLength, deskBytes, deskLength, deskAt, NarrowWanted, Typed, DeskBack, OtherDesks, OneDesk}
 use Rattle.blocks.proofs.Parts.{small, flag-back, pad-whole}
-use Rattle.blocks.proofs.Puts.{four}
 use Rattle.blocks.proofs.Loads.{loads-saved, other, one}
 
 -- a record that is set, or none
@@ -63,19 +59,6 @@ kept-length stored wanted queue h k =
 pub desk-length : (d : Desk) → length (keptBytes (d .stored) (d .requested) (d .queue)) ≡ keptLength → length (deskBytes d) ≡ deskLength
 unfolding deskBytes countBytes
 desk-length d h = let a = four-length (d .t1) in simp length-append (omega arith)
-
-pub counts-put : (t1 kept queued set k n at : ℕ) (out : List ℕ) (a : ℕ) (o : List ℕ) (b : ℕ) (p : List ℕ) (c : ℕ) (q : List ℕ) (r : ℕ) (x : List ℕ)
-    → k ≡ countByte kept → n ≡ countByte queued → (a, o) ≡ puts (fourBytes t1) at out → (b, p) ≡ puts (k ∷ []) a o → (c, q) ≡ puts (n ∷ []) b p
-    → (r, x) ≡ puts (set ∷ []) c q → (r, x) ≡ puts (countBytes t1 kept queued set) at out
-unfolding countBytes
-counts-put t1 kept queued set k n at out a o b p c q r x i j h g f e =
-    rw (i, j) at (four (fourBytes t1) (k ∷ []) (n ∷ []) (set ∷ []) at out a o b p c q r x h g f e)
-
-pub desk-put : (d : Desk) (set at : ℕ) (out : List ℕ) (a : ℕ) (o : List ℕ) (b : ℕ) (p : List ℕ) (r : ℕ) (x : List ℕ) → set ≡ setByte (d .requested)
-    → (a, o) ≡ puts (headBytes (d .line) (d .good) (d .last .0) (d .key)) at out → (b, p) ≡ puts (countBytes (d .t1) (d .kept) (d .queued) set) a o
-    → (r, x) ≡ puts (keptBytes (d .stored) (d .requested) (d .queue)) b p → (r, x) ≡ puts (deskBytes d) at out
-unfolding deskBytes
-desk-put d set at out a o b p r x i h g f = then _ _ at out a r o x h (rw i at (then _ _ a o b r p x g f))
 
 desk-again : (d : Desk) → Typed d → inRanges d ≡ true → deskAt (deskBytes d) ≡ d
 unfolding deskAt deskBytes countBytes keptBytes fourBytes numeralOn

@@ -1,7 +1,7 @@
 -- A record's block, put and read. Assumes nothing.
 use mathlib.Core.Path.{_≡_, refl, sym, ap, _∙_}
 use mathlib.Core.Bool.{Bool, true, cond}
-use mathlib.Core.List.{List, [], _∷_, _++_}
+use mathlib.Core.List.{List, [], _∷_}
 use Prim.Native.Nat.{ℕ, zero, suc, _<_, _^_}
 use native.Mathlib.Omega.{arith}
 use lib.Dec.{eqb, lit<}
@@ -17,8 +17,6 @@ use Rattle.records.specs.declared.records.Record.{Record}
 use Rattle.records.proofs.Again.{record-again}
 use Rattle.records.proofs.Apart.{one-refusal}
 use Rattle.text.specs.Fields.{sameText}
-use Rattle.text.specs.Putting.{puts}
-use Rattle.text.proofs.Puts.{then}
 use Rattle.text.proofs.Rows.{same-is-equal, equal-is-same}
 use Rattle.blocks.specs.Layout.{joined}
 use Rattle.text.specs.Fours.{fourBytes, fourSaid}
@@ -44,15 +42,6 @@ values-length rec = omega (arith, joined-length fourBytes 4 four-length (valuesO
 pub record-length : (rec : Record) → length (recordBytes rec) ≡ recordLength
 unfolding recordBytes
 record-length rec = let h = values-length rec in simp length-append (omega arith)
-
--- type, values and text one behind the other
-pub block-put : (rec : Record) (kind : ℕ) (v : List ℕ) (at : ℕ) (out : List ℕ) (a : ℕ) (o : List ℕ) (b : ℕ) (p : List ℕ) (r : ℕ) (x : List ℕ)
-    → kind ≡ typeOf rec → v ≡ valuesOf rec → (a, o) ≡ puts (kind ∷ []) at out → (b, p) ≡ puts (joined fourBytes v) a o → (r, x) ≡ puts (replicate textLength 0) b p
-    → (r, x) ≡ puts (recordBytes rec) at out
-unfolding recordBytes
-block-put rec kind v at out a o b p r x k e f g h =
-    rw (k, e) at
-    (then (kind ∷ []) (joined fourBytes v ++ replicate textLength 0) at out a r o x f (then (joined fourBytes v) (replicate textLength 0) a o b r p x g h))
 
 -- what is read where a test fails, and where none does
 pub other-length : (b : List ℕ) → (length b ≡ recordLength → ⊥) → refused (no 12 0) ≡ recordIn b

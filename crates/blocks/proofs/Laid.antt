@@ -5,12 +5,10 @@ use mathlib.Core.List.{List, [], _∷_, _++_, append-nil}
 use Prim.Native.Nat.{ℕ, zero, suc, _+_, _*_, _≤_, _<_}
 use native.Mathlib.Omega.{arith}
 use native.Mathlib.Numerals.{add-one}
-use lib.Dec.{eqb}
-use lib.ListN.{length, take, drop, getD, set, length-append, drop-of-length-le}
-use lib.Seq.{take-at, drop-at, drop-drop, drop-cons, getD-set-same, getD-set-other, ext-getD}
-use borrow.Author.Tests.{eq-eqb, ne-eqb, eqb-true, eqb-false}
+use lib.ListN.{length, take, drop, getD, length-append, drop-of-length-le}
+use lib.Seq.{take-at, drop-at, drop-drop, drop-cons, ext-getD}
+use borrow.Author.Tests.{eq-eqb, ne-eqb}
 use Rattle.laws.specs.Truth.{All}
-use Rattle.laws.proofs.Passes.{on-test}
 use Rattle.text.specs.Fields.{sameText}
 use Rattle.text.specs.Putting.{puts, placed}
 use Rattle.text.proofs.Puts.{with-room}
@@ -71,16 +69,7 @@ module _ {A : Type 0} (width : ℕ) (thingIn : List ℕ → A) where
       let e : width + width * i ≡ width * suc i = omega arith in
       each-at d n i (drop width b) (omega arith) ∙ rw (drop-drop (width * i) width b, e)
 
-  -- one more is taken
-  pub taken : (d : A) (b : List ℕ) (v : List A) (j : ℕ) (x : A) → j < length v → x ≡ thingIn (take width (drop (width * j) b))
-      → ((k : ℕ) → k < j → getD v k d ≡ thingIn (take width (drop (width * k) b)))
-      → (k : ℕ) → k < j + 1 → getD (set v j x) k d ≡ thingIn (take width (drop (width * k) b))
-  taken d b v j x l e h k g =
-      on-test (eqb k j)
-      (λ q. let f : k ≡ j = eqb-true k j q in rw (f, getD-set-same v j x d l) e)
-      (λ q. getD-set-other v j k x d (eqb-false k j q) ∙ h k (omega (arith, eqb-false k j q)))
-
-  -- all are
+  -- all are taken
   pub all-taken : (d : A) (b : List ℕ) (v : List A) (n : ℕ) → length v ≡ n → ((k : ℕ) → k < n → getD v k d ≡ thingIn (take width (drop (width * k) b))) → v ≡ each width thingIn n b
   all-taken d b v n l h = ext-getD d v (each width thingIn n b) (l ∙ sym (each-length n b)) (λ i g. h i (omega arith) ∙ sym (each-at d n i b (omega arith)))
 

@@ -2,8 +2,6 @@ pub mod Laid
 pub mod Found
 pub mod Parts
 pub mod Loads
-pub mod Puts
-pub mod GathererPut
 pub mod GathererBlock
 pub mod InPlace
 pub mod MasterBlock

@@ -1,11 +1,10 @@
 -- `put_queue` puts place after place. Assumes nothing.
-use mathlib.Core.Path.{_≡_, refl, sym, ap, _∙_}
-use mathlib.Core.List.{List}
-use Prim.Native.Nat.{ℕ, _+_, _≤_, _-_}
+use mathlib.Core.Path.{_≡_, refl, _∙_}
+use Prim.Native.Nat.{_≤_, _-_}
 use native.Mathlib.Omega.{arith}
-use lib.ListN.{length, drop, getD}
+use lib.ListN.{length, drop}
 use Rattle.text.specs.Putting.{puts}
-use Rattle.text.proofs.Puts.{onward, put-all}
+use Rattle.text.proofs.Puts.{part-on, put-all}
 use Rattle.desk.specs.Waiting.{blank}
 use Rattle.blocks.specs.Layout.{joined}
 use Rattle.blocks.proofs.Laid.{one-here, none-here}
@@ -20,24 +19,6 @@ Inv-loop out₀ at queue place₀ i₀ out place i = (i ≤ 8) × (length out �
 abbrev μ-loop : tie.MeasureT-loop
 μ-loop out₀ at queue place₀ i₀ out place i = 8 - i
 
-loop-holds : tie.Need-loop-holds Inv-loop μ-loop
-loop-holds c = (omega arith, refl, refl)
-
-mul-waiting : tie.Need-mul-waiting Inv-loop μ-loop
-mul-waiting c = search needs
-
-array-copy-out-waiting : tie.Need-array-copy-out-waiting Inv-loop μ-loop
-array-copy-out-waiting c = search needs
-
-put-block-requires : tie.Need-put-block-requires Inv-loop μ-loop
-put-block-requires c κs = search needs
-
-add-i : tie.Need-add-i Inv-loop μ-loop
-add-i c = search needs
-
-loop-less : tie.Need-loop-less Inv-loop μ-loop
-loop-less c = search needs
-
 loop-again : tie.Need-loop-again Inv-loop μ-loop
 loop-again c =
     let p = c .before .before in
@@ -46,12 +27,8 @@ loop-again c =
     let w : length q ≡ 8 = search needs in (
       omega arith,
       p .put-block .kept .0 ∙ l .inv .1,
-      onward (waitingBytes (getD q (l .i) blank)) (joined waitingBytes (drop (l .i + 1) q)) _ _ _ _ (p .put-block .ensures)
-          ∙ ap (λ (t : List ℕ). puts t (l .place) (l .out)) (sym (one-here waitingBytes blank q (l .i) (omega arith))) ∙ l .inv .2,
+      part-on _ _ _ _ _ _ (p .put-block .ensures) (one-here waitingBytes blank q (l .i) (omega arith)) (l .inv .2),
     )
-
-same-length : tie.Need-same-length Inv-loop μ-loop
-same-length c = c .before .loop .inv .1
 
 returns : tie.Need-returns Inv-loop μ-loop
 returns c =
@@ -63,4 +40,5 @@ pub put-queue-spec : {M : Type 1} → statement M
 put-queue-spec =
     tie.close
     (tie.spec
-    Inv-loop μ-loop loop-holds mul-waiting array-copy-out-waiting put-block-requires add-i loop-less loop-again same-length returns)
+    Inv-loop μ-loop (λ c. (omega arith, refl, refl)) (λ c. search needs) (λ c. search needs) (λ c κs. search needs) (λ c. search needs)
+    (λ c. search needs) loop-again (λ c. c .before .loop .inv .1) returns)

@@ -3,15 +3,10 @@ use borrow.Author.Needs.{needs}
 use Rattle.blocks.proofs.desks.put_wanted.Statement.{statement}
 use Rattle.blocks.proofs.desks.put_wanted.Tie as tie
 
-returns : tie.Need-returns
-returns c = rw (c .before .before .before .before .before .enum-told .given .1) (c .before .before .put-text .ensures)
-
-returns-2 : tie.Need-returns-2
-returns-2 c = rw (c .before .before .before .before .before .wanted .given .1) (c .before .before .put-block .ensures)
-
 pub put-wanted-spec : {M : Type 1} → statement M
 put-wanted-spec =
     tie.close
     (tie.spec
-    (λ c. search needs) (λ c. search needs) (λ c κs. search needs) (λ c. search needs) (λ c κs. search needs) (λ c. search needs) returns
-    (λ c. search needs) returns-2)
+    (λ c. search needs) (λ c. search needs) (λ c κs. search needs) (λ c. search needs) (λ c κs. search needs) (λ c. search needs)
+    (λ c. rw (c .before .before .before .before .before .enum-told .given .1) (c .before .before .put-text .ensures)) (λ c. search needs)
+    (λ c. rw (c .before .before .before .before .before .wanted .given .1) (c .before .before .put-block .ensures)))

@@ -7,11 +7,10 @@ use borrow.Author.Needs.{needs}
 use Rattle.blocks.proofs.desks.telegram_in.Statement.{statement}
 use Rattle.blocks.proofs.desks.telegram_in.Tie as tie
 
-copy-requires : tie.Need-copy-requires
-copy-requires c κs = rw (c .before .part .ensures) (most longest (drop 0 (now (c .before .before .before .args .s))))
-
-returns : tie.Need-returns
-returns c = copied (now (c .before .before .before .before .before .args .s)) _ _ (c .before .before .before .part .ensures) (c .before .copy .ensures .1)
-
 pub telegram-in-spec : {M : Type 1} → statement M
-telegram-in-spec = tie.close (tie.spec (λ c κs. search needs) (λ c. search needs) copy-requires returns)
+telegram-in-spec =
+    tie.close
+    (tie.spec
+    (λ c κs. search needs) (λ c. search needs)
+    (λ c κs. rw (c .before .part .ensures) (most longest (drop 0 (now (c .before .before .before .args .s)))))
+    (λ c. copied (now (c .before .before .before .before .before .args .s)) _ _ (c .before .before .before .part .ensures) (c .before .copy .ensures .1)))

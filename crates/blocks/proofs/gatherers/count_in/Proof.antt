@@ -5,13 +5,10 @@ use borrow.Author.Needs.{needs}
 use Rattle.blocks.proofs.gatherers.count_in.Statement.{statement}
 use Rattle.blocks.proofs.gatherers.count_in.Tie as tie
 
-returns : tie.Need-returns
-unfolding countIn
-returns c = rw (eq-eqb _ _ (c .before .before .if1 .taken), c .wide .ensures .0, c .before .byte-at .ensures)
-
-returns-2 : tie.Need-returns-2
-unfolding countIn
-returns-2 c = rw (ne-eqb _ _ (c .if1 .left))
-
 pub count-in-spec : {M : Type 1} → statement M
-count-in-spec = tie.close (tie.spec (λ c κs. search needs) (λ c κs. search needs) returns returns-2)
+unfolding countIn
+count-in-spec =
+    tie.close
+    (tie.spec
+    (λ c κs. search needs) (λ c κs. search needs)
+    (λ c. rw (eq-eqb _ _ (c .before .before .if1 .taken), c .wide .ensures .0, c .before .byte-at .ensures)) (λ c. rw (ne-eqb _ _ (c .if1 .left))))

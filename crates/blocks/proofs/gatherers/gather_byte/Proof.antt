@@ -14,16 +14,6 @@ returns c =
     let a = c .before .before .before .before .args in
     refused-in (now (a .block)) _ (Byte (a .byte)) (c .before .count-in .ensures) (c .if1 .taken)
 
-add-put : tie.Need-add-put
-add-put c =
-    let t = c .before .before .before .before in
-    omega (arith, joins-at _ _ _ (sym (t .turn-of .ensures) ∙ c .before .before .turn .given .1) .1)
-
-cast-put : tie.Need-cast-put
-cast-put c =
-    let t = c .before .before .before .before in
-    omega (arith, joins-at _ _ _ (sym (t .turn-of .ensures) ∙ c .before .before .turn .given .1) .1)
-
 put-requires : tie.Need-put-requires
 put-requires c κs =
     let t = c .before .before .before .before in
@@ -79,6 +69,8 @@ pub gather-byte-spec : {M : Type 1} → statement M
 gather-byte-spec =
     tie.close
     (tie.spec
-    (λ c κs. search needs) (λ c. search needs) returns (λ c κs. search needs) (λ c. search needs) add-put cast-put put-requires (λ c. search needs)
-    put-requires-2 add-t20 (λ c. search needs) slice-write-block (λ c. search needs) returns-2 (λ c. search needs) returns-3 (λ c. search needs)
-    returns-4)
+    (λ c κs. search needs) (λ c. search needs) returns (λ c κs. search needs) (λ c. search needs)
+    (λ c. omega (arith, joins-at _ _ _ (sym (c .before .before .before .before .turn-of .ensures) ∙ c .before .before .turn .given .1) .1))
+    (λ c. omega (arith, joins-at _ _ _ (sym (c .before .before .before .before .turn-of .ensures) ∙ c .before .before .turn .given .1) .1))
+    put-requires (λ c. search needs) put-requires-2 add-t20 (λ c. search needs) slice-write-block (λ c. search needs) returns-2 (λ c. search needs)
+    returns-3 (λ c. search needs) returns-4)

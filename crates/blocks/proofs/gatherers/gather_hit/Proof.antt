@@ -8,16 +8,11 @@ use borrow.Author.Needs.{needs}
 use Rattle.blocks.proofs.gatherers.gather_hit.Statement.{statement}
 use Rattle.blocks.proofs.gatherers.gather_hit.Tie as tie
 
-returns : tie.Need-returns
-returns c = refused-in (now (c .before .before .before .before .args .block)) _ Hit (c .before .count-in .ensures) (c .if1 .taken)
-
-slice-write-block : tie.Need-slice-write-block
-slice-write-block c = omega (arith, whole (now (c .before .before .before .before .args .block)) _ (c .before .count-in .ensures) (c .if1 .left))
-
-returns-2 : tie.Need-returns-2
-returns-2 c = hit-in (now (c .before .before .before .before .args .block)) _ _ (c .before .count-in .ensures) (c .if1 .left) refl
-
 pub gather-hit-spec : {M : Type 1} → statement M
 gather-hit-spec =
     tie.close
-    (tie.spec (λ c κs. search needs) (λ c. search needs) returns slice-write-block (λ c. search needs) returns-2)
+    (tie.spec
+    (λ c κs. search needs) (λ c. search needs)
+    (λ c. refused-in (now (c .before .before .before .before .args .block)) _ Hit (c .before .count-in .ensures) (c .if1 .taken))
+    (λ c. omega (arith, whole (now (c .before .before .before .before .args .block)) _ (c .before .count-in .ensures) (c .if1 .left)))
+    (λ c. search needs) (λ c. hit-in (now (c .before .before .before .before .args .block)) _ _ (c .before .count-in .ensures) (c .if1 .left) refl))

@@ -1,14 +1,16 @@
 -- `put_gatherer` puts the count and the bytes. Assumes nothing.
-use Rattle.blocks.proofs.GathererPut.{gatherer-put}
+use Rattle.blocks.specs.Gatherers.{gathererBytes}
+use Rattle.text.proofs.Puts.{then}
 use borrow.Author.Needs.{needs}
 use Rattle.blocks.proofs.gatherers.put_gatherer.Statement.{statement}
 use Rattle.blocks.proofs.gatherers.put_gatherer.Tie as tie
 
 returns : tie.Need-returns
+unfolding gathererBytes
 returns c =
     let p = c .before .before in
     let q = p .before .before .before .before .before in
-    gatherer-put (q .before .before .before .before .before .args .g) _ _ _ _ _ _ _ (q .before .count-byte .ensures) (q .put-byte .ensures) (p .put-text .ensures)
+    rw (← (q .before .count-byte .ensures)) (then _ _ _ _ _ _ _ _ (q .put-byte .ensures) (p .put-text .ensures))
 
 pub put-gatherer-spec : {M : Type 1} → statement M
 put-gatherer-spec =

@@ -1,5 +1,5 @@
 -- `put_head` puts four bytes. Assumes nothing.
-use Rattle.blocks.proofs.Puts.{head-put}
+use Rattle.text.proofs.Puts.{then}
 use borrow.Author.Needs.{needs}
 use Rattle.blocks.proofs.heads.put_head.Statement.{statement}
 use Rattle.blocks.proofs.heads.put_head.Tie as tie
@@ -10,9 +10,7 @@ returns c =
     let q = p .before .before .before .before in
     let r = q .before .before .before .before in
     let s = r .before .before .before .before .before in
-    let a = s .before .before .before .args in
-    head-put (a .line) (a .good) _ (a .number) (a .more) _ _ _ _ _ _ _ _ _ _
-    (r .before .flag-byte .ensures) (s .put-byte .ensures) (r .put-byte2 .ensures) (q .put-byte3 .ensures) (p .put-byte4 .ensures)
+    rw (← (r .before .flag-byte .ensures)) (then _ _ _ _ _ _ _ _ (s .put-byte .ensures) (then _ _ _ _ _ _ _ _ (r .put-byte2 .ensures) (then _ _ _ _ _ _ _ _ (q .put-byte3 .ensures) (p .put-byte4 .ensures))))
 
 pub put-head-spec : {M : Type 1} → statement M
 put-head-spec =

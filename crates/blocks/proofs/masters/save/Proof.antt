@@ -1,22 +1,14 @@
 -- `save` fills a block of just its length. Assumes nothing.
-use denote.Ref.{now}
 use Rattle.blocks.proofs.Laid.{fill, unfilled}
-use Rattle.blocks.specs.Masters.{masterLength, masterBytes}
 use Rattle.blocks.proofs.MasterBlock.{master-length}
 use borrow.Author.Needs.{needs}
 use Rattle.blocks.proofs.masters.save.Statement.{statement}
 use Rattle.blocks.proofs.masters.save.Tie as tie
 
-returns : tie.Need-returns
-returns c =
-    let p = c .before .before in
-    let a = p .before .before .before .before .args in
-    fill masterLength (masterBytes (a .m)) (now (a .block)) _ _ (master-length (a .m)) (p .before .before .if1 .taken) (p .put-master .ensures)
-
-returns-2 : tie.Need-returns-2
-returns-2 c =
-    let a = c .before .before .args in
-    unfilled masterLength (masterBytes (a .m)) (now (a .block)) (c .if1 .left)
-
 pub save-spec : {M : Type 1} → statement M
-save-spec = tie.close (tie.spec (λ c κs. search needs) (λ c. search needs) returns returns-2)
+save-spec =
+    tie.close
+    (tie.spec
+    (λ c κs. search needs) (λ c. search needs)
+    (λ c. let p = c .before .before in fill _ _ _ _ _ (master-length _) (p .before .before .if1 .taken) (p .put-master .ensures))
+    (λ c. unfilled _ _ _ (c .if1 .left)))
