@@ -8,6 +8,13 @@ use Rattle.master.specs.declared.answers.Answer as a
 use Rattle.master.proofs.answers.Answer as at
 use Rattle.master.specs.Answers as m
 use Rattle.in656.specs.Masters.{answerBlock}
+use Rattle.desk.specs.Replying.{originOf}
+use Rattle.desk.specs.declared.replying.Source as s
+use Rattle.desk.proofs.replying.Source as st
+use Rattle.desk.specs.declared.heard.Heard as h
+use Rattle.desk.proofs.heard.Heard as ht
+use Rattle.desk.specs.Heard as d
+use Rattle.in656.specs.Desks.{panelBlock, toldBlock}
 
 -- a call of the master that hears no answer
 pub other-answer : (answer : a.Answer) (block : List ℕ) → OneOf (0 ∷ 1 ∷ 2 ∷ 5 ∷ 6 ∷ []) (tagOf at.the-type answer) → block ≡ answerBlock (m.toldOf answer) block
@@ -18,3 +25,21 @@ other-answer (a.the-variants.Answered rec count) block k = absurd (miss (0 ∷ 1
 other-answer (a.the-variants.OtherKind reading count) block k = absurd (miss (0 ∷ 1 ∷ 2 ∷ 5 ∷ 6 ∷ []) 4 tt k)
 other-answer (a.the-variants.GivenUp cause count) block k = refl
 other-answer (a.the-variants.Ignored why) block k = refl
+
+-- an answer that does not go with a record for the panel
+pub other-source : (source : s.Source) (block : List ℕ) → OneOf (0 ∷ 1 ∷ 2 ∷ 4 ∷ 5 ∷ 6 ∷ []) (tagOf st.the-type source) → block ≡ panelBlock (originOf source) block
+other-source s.the-variants.Requested block h = refl
+other-source s.the-variants.Queue block h = refl
+other-source (s.the-variants.Key b) block h = refl
+other-source (s.the-variants.Panel rec) block h = absurd (miss (0 ∷ 1 ∷ 2 ∷ 4 ∷ 5 ∷ 6 ∷ []) 3 tt h)
+other-source (s.the-variants.Contents x) block h = refl
+other-source s.the-variants.NotMaster block h = refl
+other-source s.the-variants.NothingSet block h = refl
+
+-- a hearing of the desk that handles nothing
+pub other-heard : (answer : h.Heard) (block : List ℕ) → OneOf (0 ∷ 1 ∷ 2 ∷ 3 ∷ []) (tagOf ht.the-type answer) → block ≡ toldBlock (d.toldOf answer) block
+other-heard (h.the-variants.Refused x) block k = refl
+other-heard (h.the-variants.Silent lost x) block k = refl
+other-heard (h.the-variants.Fault lost n) block k = refl
+other-heard (h.the-variants.Repeat n) block k = refl
+other-heard (h.the-variants.Handled lost source n) block k = absurd (miss (0 ∷ 1 ∷ 2 ∷ 3 ∷ []) 4 tt k)

@@ -1,9 +1,9 @@
 -- A call on bytes is the call by value, through what its parts promise. Assumes nothing.
 use mathlib.Core.Path.{_≡_, ap}
-use mathlib.Core.List.{List, []}
+use mathlib.Core.List.{List}
 use Prim.Native.Nat.{ℕ}
 use lib.ListN.{length}
-use borrow.Author.Tests.{eq-eqb, ne-eqb}
+use borrow.Author.Tests.{eq-eqb}
 use Rattle.records.specs.Answers.{Outcome, Write}
 use Rattle.master.specs.declared.state.Master.{Master}
 use Rattle.master.specs.Answers as m
@@ -14,9 +14,13 @@ use Rattle.blocks.specs.Masters as ms
 use Rattle.in656.specs.declared.results.result.In656Result.{In656Result}
 use Rattle.in656.specs.Results.Result.{Call}
 use Rattle.in656.specs.Results.Telegrams.{writeResult}
-use Rattle.in656.specs.Results.Masters.{toldResult}
 use Rattle.in656.specs.Telegrams.{wrote}
 use Rattle.in656.specs.Masters as master
+use Rattle.desk.specs.declared.state.Desk.{Desk}
+use Rattle.desk.specs.Heard as d
+use Rattle.desk.specs.Hearing as dh
+use Rattle.blocks.specs.Desks as ds
+use Rattle.in656.specs.Desks as desk
 
 pub written : (r : In656Result) (o : Outcome) (out : List ℕ) (w : Write) → r ≡ writeResult o → (o, out) ≡ w → (r, out) ≡ wrote w
 written r o out w p q = rw (p, ← q)
@@ -27,13 +31,6 @@ pub master-sends : (r : In656Result) (s o b : List ℕ) (x : Master) (told : m.T
 unfolding master.stepped
 master-sends r s o b x told h p q = rw (← q) (ap (λ (w : Call). (w .0, (w .1, o))) p)
 
--- the master's hearing with a record block of another length
-pub master-refuses : (b : List ℕ) (time : ℕ) (frame block out : List ℕ) (x y : Master) (told : m.Told) (o : List ℕ) (r : In656Result)
-    → x ≡ ms.loadOf b → (length block ≡ recordLength → ⊥) → (y, (told, o)) ≡ mh.hearOf x time frame [] → r ≡ toldResult told
-    → (r, (b, (block, out))) ≡ master.masterHear b time frame block out
-unfolding master.masterHear
-master-refuses b time frame block out x y told o r l n q p = rw (ne-eqb _ _ n, ← l, ← q, p)
-
 -- the master's hearing
 pub master-hears : (b : List ℕ) (time : ℕ) (frame block out : List ℕ) (x y : Master) (told : m.Told) (o s k : List ℕ) (r : In656Result)
     → x ≡ ms.loadOf b → length block ≡ recordLength → (y, (told, o)) ≡ mh.hearOf x time frame out → (r, s) ≡ master.stepped (y, told) b
@@ -41,3 +38,11 @@ pub master-hears : (b : List ℕ) (time : ℕ) (frame block out : List ℕ) (x y
 unfolding master.masterHear master.heard master.stepped
 master-hears b time frame block out x y told o s k r l e q p f =
     rw (eq-eqb _ _ e, ← l, ← q, f) (ap (λ (w : Call). (w .0, (w .1, (master.answerBlock told block, o)))) p)
+
+-- the desk's hearing
+pub desk-hears : (b : List ℕ) (time : ℕ) (frame block out : List ℕ) (x y : Desk) (told : d.Told) (o s k : List ℕ) (r : In656Result)
+    → x ≡ ds.loadOf b → length block ≡ recordLength → (y, told, o) ≡ dh.hearOf x time frame out → (r, (s, k)) ≡ desk.heardParts y told b block
+    → (r, (s, (k, o))) ≡ desk.deskHear b time frame block out
+unfolding desk.deskHear desk.heard desk.heardParts
+desk-hears b time frame block out x y told o s k r l e q p =
+    rw (eq-eqb _ _ e, ← l, ← q) (ap (λ (w : In656Result × (List ℕ × List ℕ)). (w .0, (w .1 .0, (w .1 .1, o)))) p)

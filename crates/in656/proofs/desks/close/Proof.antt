@@ -7,15 +7,11 @@ use Rattle.in656.proofs.desks.close.Tie as tie
 
 returns : tie.Need-returns
 unfolding stepped deskAfter
-returns c =
-    let of-outcome = c .before .before .before .before .before .before .before .of-outcome in
-    let if1 = c .before .before .before .before .before .if1 in
-    rw (c .before .before .save .ensures, ← (of-outcome .ensures), eq-eqb _ _ (if1 .taken))
+returns c = let s = c .before .before .before .before .before in rw (c .before .before .save .ensures, ← (s .before .before .of-outcome .ensures), eq-eqb _ _ (s .if1 .taken))
+
+returns-2 : tie.Need-returns-2
+unfolding stepped deskAfter
+returns-2 c = rw (← (c .before .before .of-outcome .ensures), ne-eqb _ _ (c .if1 .left))
 
 pub close-spec : {M : Type 1} → statement M
-unfolding stepped deskAfter
-close-spec =
-    tie.close
-    (tie.spec
-    (λ c κs. search needs) (λ c κs. search needs) (λ c. search needs) returns
-    (λ c. rw (← (c .before .before .of-outcome .ensures), ne-eqb _ _ (c .if1 .left))))
+close-spec = tie.close (tie.spec (λ c κs. search needs) (λ c κs. search needs) (λ c. search needs) returns returns-2)

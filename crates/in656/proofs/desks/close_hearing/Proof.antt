@@ -8,18 +8,13 @@ use Rattle.in656.proofs.desks.close_hearing.Tie as tie
 returns : tie.Need-returns
 unfolding heardParts deskAfter
 returns c =
-    let of-heard = c .before .before .before .before .before .before .before .before .before .before .of-heard in
-    let put-told = c .before .before .before .before .before .before .before .before .put-told in
-    let if1 = c .before .before .before .before .before .if1 in
-    rw (c .before .before .save .ensures, put-told .ensures, ← (of-heard .ensures), eq-eqb _ _ (if1 .taken))
-
-returns-2 : tie.Need-returns-2
-unfolding heardParts deskAfter
-returns-2 c = rw (c .before .before .before .put-told .ensures, ← (c .before .before .before .before .before .of-heard .ensures), ne-eqb _ _ (c .if1 .left))
+    let s = c .before .before .before .before .before in
+    rw (c .before .before .save .ensures, s .before .before .before .put-told .ensures, ← (s .before .before .before .before .before .of-heard .ensures), eq-eqb _ _ (s .if1 .taken))
 
 pub close-hearing-spec : {M : Type 1} → statement M
+unfolding heardParts deskAfter
 close-hearing-spec =
     tie.close
     (tie.spec
     (λ c κs. search needs) (λ c κs. search needs) (λ c κs. search needs) (λ c. search needs) (λ c. search needs) returns (λ c. search needs)
-    returns-2)
+    (λ c. let t = c .before .before .before in rw (t .put-told .ensures, ← (t .before .before .of-heard .ensures), ne-eqb _ _ (c .if1 .left))))

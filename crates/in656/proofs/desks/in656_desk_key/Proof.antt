@@ -4,14 +4,9 @@ use Rattle.in656.proofs.desks.in656_desk_key.Statement.{statement}
 use Rattle.in656.proofs.desks.in656_desk_key.Tie as tie
 
 returns : tie.Need-returns
-returns c =
-    let load = c .before .before .before .before .before .before .load in
-    let byte-or = c .before .before .before .before .before .byte-or in
-    let turn-key = c .before .before .before .before .turn-key in
-    rw (c .before .before .close .ensures, turn-key .ensures, byte-or .ensures, load .ensures)
+returns c = let s = c .before .before .before .before in rw (c .before .before .close .ensures, s .turn-key .ensures, s .before .byte-or .ensures, s .before .before .load .ensures)
 
 pub in656-desk-key-spec : {M : Type 1} → statement M
 in656-desk-key-spec =
     tie.close
-    (tie.spec
-    (λ c κs. search needs) (λ c κs. search needs) (λ c κs. search needs) (λ c κs. search needs) (λ c. search needs) returns)
+    (tie.spec (λ c κs. search needs) (λ c κs. search needs) (λ c κs. search needs) (λ c κs. search needs) (λ c. search needs) returns)

@@ -4,7 +4,8 @@ use Rattle.in656.proofs.desks.in656_desk_tick.Statement.{statement}
 use Rattle.in656.proofs.desks.in656_desk_tick.Tie as tie
 
 returns : tie.Need-returns
-returns c = rw (c .before .before .close .ensures, c .before .before .before .before .tick .ensures, c .before .before .before .before .before .load .ensures)
+returns c = let t = c .before .before .before .before in rw (c .before .before .close .ensures, t .tick .ensures, t .before .load .ensures)
 
 pub in656-desk-tick-spec : {M : Type 1} → statement M
-in656-desk-tick-spec = tie.close (tie.spec (λ c κs. search needs) (λ c κs. search needs) (λ c κs. search needs) (λ c. search needs) returns)
+in656-desk-tick-spec =
+    tie.close (tie.spec (λ c κs. search needs) (λ c κs. search needs) (λ c κs. search needs) (λ c. search needs) returns)

@@ -5,9 +5,8 @@ use borrow.Author.Needs.{needs}
 use Rattle.in656.proofs.gatherers.in656_gatherer_byte.Statement.{statement}
 use Rattle.in656.proofs.gatherers.in656_gatherer_byte.Tie as tie
 
+returns : tie.Need-returns
+returns c = rw (c .of-gathered .ensures) (ap gathered (c .before .before .before .gather-byte .ensures))
+
 pub in656-gatherer-byte-spec : {M : Type 1} → statement M
-in656-gatherer-byte-spec =
-    tie.close
-    (tie.spec
-    (λ c κs. search needs) (λ c κs. search needs) (λ c. search needs)
-    (λ c. rw (c .of-gathered .ensures) (ap gathered (c .before .before .before .gather-byte .ensures))))
+in656-gatherer-byte-spec = tie.close (tie.spec (λ c κs. search needs) (λ c κs. search needs) (λ c. search needs) returns)

@@ -7,11 +7,7 @@ use Rattle.in656.proofs.gatherers.in656_gatherer_start.Tie as tie
 
 returns-2 : tie.Need-returns-2
 unfolding gathererStart
-returns-2 c =
-    let if1 = c .before .before .before .before .before .before .if1 in
-    let start = c .before .before .before .before .before .start in
-    let save = c .before .before .before .save in
-    rw (c .done .ensures, save .ensures, start .ensures, eq-eqb _ _ (if1 .left))
+returns-2 c = let s = c .before .before .before in rw (c .done .ensures, s .save .ensures, s .before .before .start .ensures, eq-eqb _ _ (s .before .before .before .if1 .left))
 
 pub in656-gatherer-start-spec : {M : Type 1} → statement M
 unfolding gathererStart

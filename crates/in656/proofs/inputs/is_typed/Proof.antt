@@ -9,6 +9,4 @@ returns-2 c = rw (c .number-of .ensures, ← (c .before .before .before .before 
 pub is-typed-spec : {M : Type 1} → statement M
 is-typed-spec =
     tie.close
-    (tie.spec
-    (λ c κs. search needs) (λ c. search needs) (λ c. search needs) (λ c κs. search needs)
-    (λ c. rw (← (c .before .before .record-in .ensures), c .enum-told .given .1)) returns-2)
+    (tie.spec (λ c κs. search needs) (λ c. search needs) (λ c. search needs) (λ c κs. search needs) (λ c. rw (← (c .before .before .record-in .ensures), c .enum-told .given .1)) returns-2)

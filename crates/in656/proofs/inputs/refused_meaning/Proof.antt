@@ -9,6 +9,4 @@ returns c = rw (c .out-of-range .ensures, ← (c .before .before .number-of .ens
 
 pub refused-meaning-spec : {M : Type 1} → statement M
 refused-meaning-spec =
-    tie.close
-    (tie.spec
-    (λ c κs. search needs) (λ c κs. search needs) returns (λ c. rw (← (c .before .number-of .ensures), ne-eqb _ _ (c .if1 .left))))
+    tie.close (tie.spec (λ c κs. search needs) (λ c κs. search needs) returns (λ c. rw (← (c .before .number-of .ensures), ne-eqb _ _ (c .if1 .left))))

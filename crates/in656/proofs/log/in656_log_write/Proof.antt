@@ -11,12 +11,9 @@ returns c =
     let write = c .before .before .before .write-record in
     rw (← (mark-in .ensures), known .given .1) (written _ _ _ _ (c .of-writing .ensures) (write .ensures))
 
-returns-2 : tie.Need-returns-2
-returns-2 c = rw (c .refuse .ensures, ← (c .before .before .before .mark-in .ensures), c .before .enum-told .given .1)
-
 pub in656-log-write-spec : {M : Type 1} → statement M
 in656-log-write-spec =
     tie.close
     (tie.spec
     (λ c κs. search needs) (λ c. search needs) (λ c κs. search needs) (λ c κs. search needs) (λ c. search needs) (λ c κs. search needs)
-    (λ c. search needs) returns returns-2)
+    (λ c. search needs) returns (λ c. rw (c .refuse .ensures, ← (c .before .before .before .mark-in .ensures), c .before .enum-told .given .1)))

@@ -7,12 +7,11 @@ use Rattle.in656.proofs.masters.close.Tie as tie
 
 returns : tie.Need-returns
 unfolding stepped masterAfter
-returns c = rw (c .before .before .save .ensures, ← (c .before .before .before .before .before .before .before .of-answer .ensures), eq-eqb _ _ (c .before .before .before .before .before .if1 .taken))
+returns c = let s = c .before .before .before .before .before in rw (c .before .before .save .ensures, ← (s .before .before .of-answer .ensures), eq-eqb _ _ (s .if1 .taken))
+
+returns-2 : tie.Need-returns-2
+unfolding stepped masterAfter
+returns-2 c = rw (← (c .before .before .of-answer .ensures), ne-eqb _ _ (c .if1 .left))
 
 pub close-spec : {M : Type 1} → statement M
-unfolding stepped masterAfter
-close-spec =
-    tie.close
-    (tie.spec
-    (λ c κs. search needs) (λ c κs. search needs) (λ c. search needs) returns
-    (λ c. rw (← (c .before .before .of-answer .ensures), ne-eqb _ _ (c .if1 .left))))
+close-spec = tie.close (tie.spec (λ c κs. search needs) (λ c κs. search needs) (λ c. search needs) returns returns-2)

@@ -1,27 +1,23 @@
 -- `in656_master_hear` meets its contract. Assumes nothing.
-use Rattle.in656.proofs.Calls.{master-refuses, master-hears}
-use denote.Ref.{now}
+use borrow.Author.Tests.{ne-eqb}
+use Rattle.in656.specs.Masters.{masterHear}
+use Rattle.in656.proofs.Calls.{master-hears}
 use borrow.Author.Needs.{needs}
 use Rattle.in656.proofs.masters.in656_master_hear.Statement.{statement}
 use Rattle.in656.proofs.masters.in656_master_hear.Tie as tie
 
 returns : tie.Need-returns
+unfolding masterHear
 returns c =
-    let a = c .before .before .before .before .before .before .before .before .before .before .before .args in
-    let load = c .before .before .before .before .before .load in
-    let if1 = c .before .before .before .before .if1 in
-    master-refuses (now (a .state)) (a .time) (now (a .frame)) (now (a .block)) (now (a .out)) _ _ _ _ _ (load .ensures) (if1 .taken)
-    (c .before .before .hear .ensures) (c .of-answer .ensures)
+    let i = c .before .before .before .before in
+    rw (ne-eqb _ _ (i .if1 .taken), ← (i .before .load .ensures), ← (c .before .before .hear .ensures), c .of-answer .ensures)
 
 returns-2 : tie.Need-returns-2
 returns-2 c =
-    let a = c .before .before .before .before .before .before .before .before .before .before .before .before .before .before .before .before .before .before .before .args in
-    let load = c .before .before .before .before .before .before .before .before .before .before .before .before .before .load in
-    let if1 = c .before .before .before .before .before .before .before .before .before .before .before .before .if1 in
-    let hear2 = c .before .before .before .before .before .before .before .before .before .before .hear2 in
-    let put-answer = c .before .before .before .before .before .before .put-answer in
-    master-hears (now (a .state)) (a .time) (now (a .frame)) (now (a .block)) (now (a .out)) _ _ _ _ _ _ _ (load .ensures) (if1 .left) (hear2 .ensures)
-    (c .before .before .close .ensures) (put-answer .ensures)
+    let h = c .before .before .before .before .before .before .before .before .before .before in
+    let i = h .before .before in
+    master-hears _ _ _ _ _ _ _ _ _ _ _ _ (i .before .load .ensures) (i .if1 .left) (h .hear2 .ensures) (c .before .before .close .ensures)
+    (c .before .before .before .before .before .before .put-answer .ensures)
 
 pub in656-master-hear-spec : {M : Type 1} → statement M
 in656-master-hear-spec =

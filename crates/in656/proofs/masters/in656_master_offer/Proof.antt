@@ -6,10 +6,8 @@ use Rattle.in656.proofs.masters.in656_master_offer.Tie as tie
 
 returns : tie.Need-returns
 returns c =
-    let load = c .before .before .before .before .before .before .before .before .before .load in
-    let meaning = c .before .before .before .before .before .before .before .before .meaning in
-    let offer = c .before .before .before .before .before .before .offer in
-    rw (← (load .ensures), ← (meaning .ensures)) (master-sends _ _ _ _ _ _ _ (c .before .before .close .ensures) (offer .ensures))
+    let o = c .before .before .before .before .before .before in
+    rw (← (o .before .before .before .load .ensures), ← (o .before .before .meaning .ensures)) (master-sends _ _ _ _ _ _ _ (c .before .before .close .ensures) (o .offer .ensures))
 
 pub in656-master-offer-spec : {M : Type 1} → statement M
 in656-master-offer-spec =

@@ -6,12 +6,10 @@ use Rattle.in656.proofs.masters.in656_master_tick.Tie as tie
 
 returns : tie.Need-returns
 returns c =
-    let load = c .before .before .before .before .before .before .before .before .load in
-    let tick = c .before .before .before .before .before .before .tick in
-    rw (← (load .ensures)) (master-sends _ _ _ _ _ _ _ (c .before .before .close .ensures) (tick .ensures))
+    let t = c .before .before .before .before .before .before in
+    rw (← (t .before .before .load .ensures)) (master-sends _ _ _ _ _ _ _ (c .before .before .close .ensures) (t .tick .ensures))
 
 pub in656-master-tick-spec : {M : Type 1} → statement M
 in656-master-tick-spec =
     tie.close
-    (tie.spec
-    (λ c κs. search needs) (λ c κs. search needs) (λ c κs. search needs) (λ c. search needs) (λ c. search needs) returns)
+    (tie.spec (λ c κs. search needs) (λ c κs. search needs) (λ c κs. search needs) (λ c. search needs) (λ c. search needs) returns)

@@ -9,15 +9,6 @@ returns-3 c =
     let sending-detail = c .before .before .before .sending-detail in
     rw (answer2 .given .1, c .with-count .ensures, c .before .with-written .ensures, c .before .before .say2 .ensures, sending-detail .ensures)
 
-returns-4 : tie.Need-returns-4
-returns-4 c = rw (c .before .before .before .before .answer3 .given .1, c .with-count2 .ensures, c .before .with-record .ensures, c .before .before .say3 .ensures)
-
-returns-5 : tie.Need-returns-5
-returns-5 c = rw (c .before .before .before .answer4 .given .1, c .with-count3 .ensures, c .before .of-other .ensures)
-
-returns-6 : tie.Need-returns-6
-returns-6 c = rw (c .before .before .before .before .answer5 .given .1, c .with-count4 .ensures, c .before .say4 .ensures, c .before .before .cause-detail .ensures)
-
 pub of-answer-spec : {M : Type 1} → statement M
 of-answer-spec =
     tie.close
@@ -27,4 +18,7 @@ of-answer-spec =
     (λ c κs. search needs) (λ c. search needs) (λ c κs. search needs) (λ c κs. search needs) (λ c. search needs) (λ c κs. search needs)
     (λ c κs. search needs) (λ c κs. search needs) (λ c. search needs) (λ c κs. search needs)
     (λ c. rw (c .before .before .answer .given .1, c .refuse .ensures)) (λ c. rw (c .before .enum-told .given .1, c .say .ensures)) returns-3
-    returns-4 returns-5 returns-6 (λ c. search needs))
+    (λ c. rw (c .before .before .before .before .answer3 .given .1, c .with-count2 .ensures, c .before .with-record .ensures, c .before .before .say3 .ensures))
+    (λ c. rw (c .before .before .before .answer4 .given .1, c .with-count3 .ensures, c .before .of-other .ensures))
+    (λ c. rw (c .before .before .before .before .answer5 .given .1, c .with-count4 .ensures, c .before .say4 .ensures, c .before .before .cause-detail .ensures))
+    (λ c. search needs))

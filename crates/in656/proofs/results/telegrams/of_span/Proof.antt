@@ -3,12 +3,10 @@ use borrow.Author.Needs.{needs}
 use Rattle.in656.proofs.results.telegrams.of_span.Statement.{statement}
 use Rattle.in656.proofs.results.telegrams.of_span.Tie as tie
 
-returns : tie.Need-returns
-returns c = rw (c .before .before .before .before .span .given .1, c .with-written .ensures, c .before .less .ensures, c .before .before .say .ensures)
-
 pub of-span-spec : {M : Type 1} → statement M
 of-span-spec =
     tie.close
     (tie.spec
-    (λ c. search needs) (λ c κs. search needs) (λ c κs. search needs) (λ c κs. search needs) (λ c. search needs) (λ c κs. search needs) returns
+    (λ c. search needs) (λ c κs. search needs) (λ c κs. search needs) (λ c κs. search needs) (λ c. search needs) (λ c κs. search needs)
+    (λ c. rw (c .before .before .before .before .span .given .1, c .with-written .ensures, c .before .less .ensures, c .before .before .say .ensures))
     (λ c. search needs))
