@@ -1,5 +1,5 @@
 #!/usr/bin/env python3
-"""The plot of docs/MEASUREMENTS.md: a bar for each ratio that `make bench` prints.
+"""The plot of docs/MEASUREMENTS.md: for each row that `make bench` prints, a bar for the ratio to the second version and one for the ratio to the fast plain version.
 
     make -s bench | tools/ratios.py > docs/ratios.svg
 """
@@ -7,42 +7,59 @@ import math
 import re
 import sys
 
-ROW = re.compile(r'^(.+?)\s+[\d.]+ ns\s+([\d.]+)\s+([\d.]+) to ([\d.]+)$')
-LEFT, WIDE, HIGH, TOP = 290, 420, 22, 34
+RATIO = r'\s+(?:-|([\d.]+) \(([\d.]+) to ([\d.]+)\))'
+ROW = re.compile(r'^(.+?)\s+[\d.]+ ns' + RATIO + RATIO)
+VERSIONS = (('the second version', '#4c8c4a'), ('the fast plain version', '#c0603a'))
+LEFT, WIDE, BAR, HIGH, TOP, BELOW = 250, 440, 11, 30, 52, 24
 LEAST = 0.1
 
 
-def scale(most):
+def rows():
+    """The name of each row, and for each version the median, the lowest and the highest ratio, or None."""
+    for found in filter(None, map(ROW.match, sys.stdin)):
+        numbers = [found[n] and float(found[n]) for n in range(2, 8)]
+        yield found[1], [numbers[i:i + 3] if numbers[i] else None for i in (0, 3)]
+
+
+def marks(most):
     """The marks of a scale of powers of ten that reaches the highest ratio."""
-    marks = [LEAST, 1, 10]
-    while marks[-1] < most:
-        marks.append(marks[-1] * 10)
-    return marks
+    all_marks = [LEAST, 1, 10]
+    while all_marks[-1] < most:
+        all_marks.append(all_marks[-1] * 10)
+    return all_marks
 
 
 def main():
-    rows = [(m[1], float(m[2]), float(m[3]), float(m[4])) for m in map(ROW.match, sys.stdin.read().splitlines()) if m and 'wc -l' not in m[1]]
-    rows.sort(key=lambda row: row[1])
-    marks = scale(max(row[3] for row in rows))
+    drawn = list(rows())
+    scale = marks(max(ratio[0] for _, ratios in drawn for ratio in ratios if ratio))
 
     def across(ratio):
-        return LEFT + WIDE * math.log(ratio / LEAST) / math.log(marks[-1] / LEAST)
-    height = TOP + HIGH * len(rows) + 30
-    out = [f'<svg xmlns="http://www.w3.org/2000/svg" width="{LEFT + WIDE + 70}" height="{height}" font-family="sans-serif" font-size="12">',
+        inside = min(max(ratio, LEAST), scale[-1])
+        return LEFT + WIDE * math.log(inside / LEAST) / math.log(scale[-1] / LEAST)
+    height = TOP + HIGH * len(drawn) + BELOW
+    out = [f'<svg xmlns="http://www.w3.org/2000/svg" width="{LEFT + WIDE + 60}" height="{height}" font-family="sans-serif" font-size="12">',
            '<rect width="100%" height="100%" fill="white"/>',
-           f'<text x="{LEFT}" y="16">time of the library beside the plain Rust version (1: the same; left of it quicker)</text>']
-    for mark in marks:
-        x = across(mark)
-        out.append(f'<line x1="{x:.1f}" y1="{TOP - 8}" x2="{x:.1f}" y2="{height - 22}" stroke="{"black" if mark == 1 else "#cccccc"}"/>')
-        out.append(f'<text x="{x:.1f}" y="{height - 8}" text-anchor="middle">{mark:g}</text>')
-    for n, (name, ratio, low, high) in enumerate(rows):
+           '<text x="10" y="16">our time over that of each version (left of 1 we are quicker)</text>']
+    x = 10
+    for name, fill in VERSIONS:
+        out.append(f'<rect x="{x}" y="26" width="{BAR}" height="{BAR}" fill="{fill}"/>')
+        out.append(f'<text x="{x + BAR + 5}" y="36">{name}</text>')
+        x += 160
+    for mark in scale:
+        at = across(mark)
+        out.append(f'<line x1="{at:.1f}" y1="{TOP - 6}" x2="{at:.1f}" y2="{height - BELOW}" stroke="{"black" if mark == 1 else "#cccccc"}"/>')
+        out.append(f'<text x="{at:.1f}" y="{height - 8}" text-anchor="middle">{mark:g}</text>')
+    for n, (name, ratios) in enumerate(drawn):
         y = TOP + HIGH * n
-        from_, to = sorted((across(1), across(ratio)))
-        fill = '#4c8c4a' if ratio <= 1 else '#c0603a'
-        out.append(f'<text x="{LEFT - 110 + 100}" y="{y + 13}" text-anchor="end">{name}</text>')
-        out.append(f'<rect x="{from_:.1f}" y="{y + 3}" width="{max(to - from_, 1):.1f}" height="13" fill="{fill}"/>')
-        out.append(f'<line x1="{across(low):.1f}" y1="{y + 9.5}" x2="{across(high):.1f}" y2="{y + 9.5}" stroke="black"/>')
-        out.append(f'<text x="{max(to, across(high)) + 5:.1f}" y="{y + 13}">{ratio:g}</text>')
+        out.append(f'<text x="{LEFT - 10}" y="{y + BAR + 4}" text-anchor="end">{name}</text>')
+        for (_, fill), ratio in zip(VERSIONS, ratios):
+            if ratio:
+                median, low, high = ratio
+                from_, to = sorted((across(1), across(median)))
+                out.append(f'<rect x="{from_:.1f}" y="{y}" width="{max(to - from_, 1):.1f}" height="{BAR}" fill="{fill}"/>')
+                out.append(f'<line x1="{across(low):.1f}" y1="{y + BAR / 2}" x2="{across(high):.1f}" y2="{y + BAR / 2}" stroke="black"/>')
+                out.append(f'<text x="{max(to, across(high)) + 5:.1f}" y="{y + BAR - 1}" font-size="11">{median:.2f}</text>')
+            y += BAR + 1
     out.append('</svg>')
     print('\n'.join(out))
 

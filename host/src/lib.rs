@@ -3,6 +3,8 @@
 
 pub mod second;
 
+pub mod fast;
+
 pub mod making;
 
 pub mod line;
