@@ -18,28 +18,6 @@ Inv-loop line ordinal base s from out₀ next₀ count₀ filled₀ out next cou
 abbrev μ-loop : tie.MeasureT-loop
 μ-loop line ordinal base s from out₀ next₀ count₀ filled₀ out next count filled = length s - next
 
-loop-holds : tie.Need-loop-holds Inv-loop μ-loop
-unfolding listPart
-loop-holds c = (omega arith, refl, refl)
-
-sub-put-next : tie.Need-sub-put-next Inv-loop μ-loop
-sub-put-next c = search needs
-
-part-put-next-start : tie.Need-part-put-next-start Inv-loop μ-loop
-part-put-next-start c = search needs
-
-part-put-next-end : tie.Need-part-put-next-end Inv-loop μ-loop
-part-put-next-end c = search needs
-
-put-next-requires : tie.Need-put-next-requires Inv-loop μ-loop
-put-next-requires c κs = search needs
-
-enum-known-end : tie.Need-enum-known-end Inv-loop μ-loop
-enum-known-end c = search needs
-
-wrapping-add-u64-requires : tie.Need-wrapping-add-u64-requires Inv-loop μ-loop
-wrapping-add-u64-requires c κs = search needs
-
 add-filled : tie.Need-add-filled Inv-loop μ-loop
 add-filled c =
     let a = c .before .before .before .before .before .before .before .before .before .before .before .args in
@@ -74,24 +52,12 @@ loop-again c =
       rw (c .wrapping-add-u64 .ensures) (t .3 ∙ l .inv .2),
     )
 
-enum-told : tie.Need-enum-told Inv-loop μ-loop
-enum-told c = search needs
-
-same-length : tie.Need-same-length Inv-loop μ-loop
-same-length c = c .before .before .before .out .given .1 ∙ c .before .before .before .before .before .before .loop .inv .1
-
 returns : tie.Need-returns Inv-loop μ-loop
 returns c =
     let l = c .before .before .before .before .before .before .loop in
     let a = c .before .before .before .before .before .before .before .before .before .args in
     let t = told (a .line) (l .count) (a .base) (now (a .s)) (l .next) (l .out) (l .filled) (l .inv .0) _ _ _ (c .before .before .before .before .put-next .ensures) (c .enum-told .given .1) in
     t ∙ l .inv .2
-
-enum-told-2 : tie.Need-enum-told-2 Inv-loop μ-loop
-enum-told-2 c = search needs
-
-same-length-2 : tie.Need-same-length-2 Inv-loop μ-loop
-same-length-2 c = c .before .before .before .out .given .1 ∙ c .before .before .before .before .before .before .loop .inv .1
 
 returns-2 : tie.Need-returns-2 Inv-loop μ-loop
 returns-2 c =
@@ -101,8 +67,11 @@ returns-2 c =
     t ∙ l .inv .2
 
 pub list-part-spec : {M : Type 1} → statement M
+unfolding listPart
 list-part-spec =
     tie.close
     (tie.spec
-    Inv-loop μ-loop loop-holds sub-put-next part-put-next-start part-put-next-end put-next-requires enum-known-end wrapping-add-u64-requires
-    add-filled loop-less loop-again enum-told same-length returns enum-told-2 same-length-2 returns-2)
+    Inv-loop μ-loop (λ c. (omega arith, refl, refl)) (λ c. search needs) (λ c. search needs) (λ c. search needs) (λ c κs. search needs)
+    (λ c. search needs) (λ c κs. search needs) add-filled loop-less loop-again (λ c. search needs)
+    (λ c. c .before .before .before .out .given .1 ∙ c .before .before .before .before .before .before .loop .inv .1) returns (λ c. search needs)
+    (λ c. c .before .before .before .out .given .1 ∙ c .before .before .before .before .before .before .loop .inv .1) returns-2)

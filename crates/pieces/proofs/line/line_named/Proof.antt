@@ -8,17 +8,10 @@ use borrow.Author.Needs.{needs}
 use Rattle.pieces.proofs.line.line_named.Statement.{statement}
 use Rattle.pieces.proofs.line.line_named.Tie as tie
 
-returns : tie.Need-returns
-unfolding lineNamed
-returns c = let z : c .before .args .digit - code "0" ≡ 0 = omega arith in rw z
-
-returns-2 : tie.Need-returns-2
-unfolding lineNamed
-returns-2 c = rw (← (c .before .is-line .ensures), c .if2 .taken)
-
-returns-3 : tie.Need-returns-3
-unfolding lineNamed
-returns-3 c = rw (← (c .before .is-line .ensures), c .if2 .left)
-
 pub line-named-spec : {M : Type 1} → statement M
-line-named-spec = tie.close (tie.spec returns (λ c κs. search needs) returns-2 returns-3)
+unfolding lineNamed
+line-named-spec =
+    tie.close
+    (tie.spec
+    (λ c. let z : c .before .args .digit - code "0" ≡ 0 = omega arith in rw z) (λ c κs. search needs)
+    (λ c. rw (← (c .before .is-line .ensures), c .if2 .taken)) (λ c. rw (← (c .before .is-line .ensures), c .if2 .left)))

@@ -17,9 +17,6 @@ Inv-loop buf₀ from end n i₀ buf i = (n ≡ length (tailOf from end buf₀)) 
 abbrev μ-loop : tie.MeasureT-loop
 μ-loop buf₀ from end n i₀ buf i = n - i
 
-tail-len-requires : tie.Need-tail-len-requires Inv-loop μ-loop
-tail-len-requires c κs = search needs
-
 loop-holds : tie.Need-loop-holds Inv-loop μ-loop
 loop-holds c = let a = c .before .before .before .args in (c .tail-len .ensures, omega arith, refl, paste-zero (now (a .buf)) 0 (tailOf (a .from) (a .end) (now (a .buf))))
 
@@ -35,18 +32,12 @@ slice-write-buf c = let a = c .before .before .before .before .before .before .a
 add-i : tie.Need-add-i Inv-loop μ-loop
 add-i c = let a = c .before .before .before .before .before .before .args in omega (arith, tail-within (a .from) (a .end) (now (a .buf)))
 
-loop-less : tie.Need-loop-less Inv-loop μ-loop
-loop-less c = omega arith
-
 loop-again : tie.Need-loop-again Inv-loop μ-loop
 loop-again c =
     let l = c .before .before .loop in
     let a = c .before .before .before .before .before .before .args in
     let h = c .before .loop-test .taken in
     (l .inv .0, omega arith, simp length-set (l .inv .2), moved (a .from) (a .end) (now (a .buf)) (l .buf) (l .i) (omega arith) (l .inv .3))
-
-same-length : tie.Need-same-length Inv-loop μ-loop
-same-length c = c .before .loop .inv .2
 
 returns : tie.Need-returns Inv-loop μ-loop
 returns c =
@@ -58,4 +49,5 @@ pub keep-tail-spec : {M : Type 1} → statement M
 keep-tail-spec =
     tie.close
     (tie.spec
-    Inv-loop μ-loop tail-len-requires loop-holds add-buf slice-read-buf slice-write-buf add-i loop-less loop-again same-length returns)
+    Inv-loop μ-loop (λ c κs. search needs) loop-holds add-buf slice-read-buf slice-write-buf add-i (λ c. omega arith) loop-again
+    (λ c. c .before .loop .inv .2) returns)

@@ -11,9 +11,9 @@ returns : tie.Need-returns
 unfolding lineFor
 returns c = rw (eq-eqb (c .before .before .before .before .before .args .self .line) 0 (c .before .before .if1 .taken)) (c .line-named .ensures ∙ ap lineNamed (c .before .byte-at .ensures))
 
-returns-2 : tie.Need-returns-2
-unfolding lineFor
-returns-2 c = rw (ne-eqb (c .before .before .before .args .self .line) 0 (c .if1 .left))
-
 pub line-for-spec : {M : Type 1} → statement M
-line-for-spec = tie.close (tie.spec (λ c κs. search needs) (λ c κs. search needs) returns returns-2)
+unfolding lineFor
+line-for-spec =
+    tie.close
+    (tie.spec
+    (λ c κs. search needs) (λ c κs. search needs) returns (λ c. rw (ne-eqb (c .before .before .before .args .self .line) 0 (c .if1 .left))))

@@ -5,9 +5,6 @@ use borrow.Author.Needs.{needs}
 use Rattle.recordings.proofs.replay.part.put_refused.Statement.{statement}
 use Rattle.recordings.proofs.replay.part.put_refused.Tie as tie
 
-returns : tie.Need-returns
-unfolding refusedText
-returns c = search then
-
 pub put-refused-spec : {M : Type 1} → statement M
-put-refused-spec = tie.close (tie.spec (λ c κs. search needs) (λ c κs. search needs) (λ c. search needs) returns)
+unfolding refusedText
+put-refused-spec = tie.close (tie.spec (λ c κs. search needs) (λ c κs. search needs) (λ c. search needs) (λ c. search then))

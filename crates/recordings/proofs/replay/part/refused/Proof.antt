@@ -10,10 +10,6 @@ use borrow.Author.Needs.{needs}
 use Rattle.recordings.proofs.replay.part.refused.Statement.{statement}
 use Rattle.recordings.proofs.replay.part.refused.Tie as tie
 
-returns : tie.Need-returns
-unfolding refusedPut
-returns c = rw (eq-eqb (c .before .before .args .number) 20 (c .if1 .taken))
-
 returns-2 : tie.Need-returns-2
 unfolding refusedPut
 returns-2 c =
@@ -21,4 +17,5 @@ returns-2 c =
     rw (ne-eqb (a .number) 20 (c .before .before .before .before .if1 .left)) (ap {B = Put × List ℕ} (λ (y : ℕ × List ℕ). textPut (a .desk) (a .from) Over y) (c .before .before .put-refused .ensures))
 
 pub refused-spec : {M : Type 1} → statement M
-refused-spec = tie.close (tie.spec returns (λ c κs. search needs) (λ c. search needs) returns-2)
+unfolding refusedPut
+refused-spec = tie.close (tie.spec (λ c. rw (eq-eqb (c .before .before .args .number) 20 (c .if1 .taken))) (λ c κs. search needs) (λ c. search needs) returns-2)

@@ -19,30 +19,8 @@ Inv-loop ordinal base s out₀ desk₀ count₀ next₀ filled₀ out desk count
 abbrev μ-loop : tie.MeasureT-loop
 μ-loop ordinal base s out₀ desk₀ count₀ next₀ filled₀ out desk count next filled = length s - next
 
-loop-holds : tie.Need-loop-holds Inv-loop μ-loop
-unfolding partOf
-loop-holds c = (omega arith, refl, refl)
-
-sub-loop : tie.Need-sub-loop Inv-loop μ-loop
-sub-loop c = search needs
-
-wrapping-add-u64-requires : tie.Need-wrapping-add-u64-requires Inv-loop μ-loop
-wrapping-add-u64-requires c κs = search needs
-
 add-end : tie.Need-add-end Inv-loop μ-loop
 add-end c = search needs
-
-sub-put-next : tie.Need-sub-put-next Inv-loop μ-loop
-sub-put-next c = search needs
-
-part-put-next-start : tie.Need-part-put-next-start Inv-loop μ-loop
-part-put-next-start c = search needs
-
-part-put-next-end : tie.Need-part-put-next-end Inv-loop μ-loop
-part-put-next-end c = search needs
-
-put-next-requires : tie.Need-put-next-requires Inv-loop μ-loop
-put-next-requires c κs = search needs
 
 add-filled : tie.Need-add-filled Inv-loop μ-loop
 add-filled c =
@@ -55,9 +33,6 @@ add-filled c =
     row-fits (a .base) (now (a .s)) (l .desk) (l .count) (l .next) (l .filled) (l .out) (l .filled + 1024 - l .filled) (omega arith)
     (omega (arith, loop-test .taken)) _ (wrapping-add-u64 .ensures) (put-next .result) _ (put-next .ensures) in
     omega (arith, f, add-end (c .before .before .before .before .before) .fits)
-
-goes-requires : tie.Need-goes-requires Inv-loop μ-loop
-goes-requires c κs = search needs
 
 same-length : tie.Need-same-length Inv-loop μ-loop
 same-length c = c .before .before .before .before .out .given .1 ∙ c .before .before .before .before .before .before .before .before .before .loop .inv .1
@@ -73,9 +48,6 @@ returns c =
     (omega (arith, loop-test .taken)) _ (wrapping-add-u64 .ensures) (put-next .result) _ (put-next .ensures)
     (sym (c .before .goes .ensures) ∙ not-true _ (c .if1 .taken))
     ∙ l .inv .2
-
-wrapping-add-u64-requires-2 : tie.Need-wrapping-add-u64-requires-2 Inv-loop μ-loop
-wrapping-add-u64-requires-2 c κs = search needs
 
 loop-less : tie.Need-loop-less Inv-loop μ-loop
 loop-less c =
@@ -106,9 +78,6 @@ loop-again c =
     (sym (goes .ensures) ∙ not-false _ (c .before .before .if1 .left)) in
     (omega (arith, p .2, loop-test .taken, out .given .1), out .given .1 ∙ l .inv .1, rw (c .before .wrapping-add-u642 .ensures) (p .3 ∙ l .inv .2))
 
-same-length-2 : tie.Need-same-length-2 Inv-loop μ-loop
-same-length-2 c = c .before .loop .inv .1
-
 returns-2 : tie.Need-returns-2 Inv-loop μ-loop
 returns-2 c =
     let a = c .before .before .before .before .args in
@@ -116,8 +85,10 @@ returns-2 c =
     no-room (a .base) (logFrom (now (a .s)) (l .next)) (l .desk) (l .count) (l .next) (l .filled) (l .out) (omega (arith, c .loop-test .left)) ∙ l .inv .2
 
 pub replay-part-spec : {M : Type 1} → statement M
+unfolding partOf
 replay-part-spec =
     tie.close
     (tie.spec
-    Inv-loop μ-loop loop-holds sub-loop wrapping-add-u64-requires add-end sub-put-next part-put-next-start part-put-next-end put-next-requires
-    add-filled goes-requires same-length returns wrapping-add-u64-requires-2 loop-less loop-again same-length-2 returns-2)
+    Inv-loop μ-loop (λ c. (omega arith, refl, refl)) (λ c. search needs) (λ c κs. search needs) add-end (λ c. search needs) (λ c. search needs)
+    (λ c. search needs) (λ c κs. search needs) add-filled (λ c κs. search needs) same-length returns (λ c κs. search needs) loop-less loop-again
+    (λ c. c .before .loop .inv .1) returns-2)

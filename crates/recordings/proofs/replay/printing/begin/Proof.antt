@@ -5,13 +5,10 @@ use borrow.Author.Needs.{needs}
 use Rattle.recordings.proofs.replay.printing.begin.Statement.{statement}
 use Rattle.recordings.proofs.replay.printing.begin.Tie as tie
 
-returns : tie.Need-returns
-unfolding openingText
-returns c = search then
-
 pub begin-spec : {M : Type 1} → statement M
+unfolding openingText
 begin-spec =
     tie.close
     (tie.spec
     (λ c κs. search needs) (λ c κs. search needs) (λ c κs. search needs) (λ c κs. search needs) (λ c κs. search needs) (λ c κs. search needs)
-    (λ c. search needs) returns)
+    (λ c. search needs) (λ c. search then))

@@ -1,5 +1,5 @@
-use Rattle.recordings.proofs.Sent.{by-count}
 -- `put_hearing` puts the parts of its row one behind the other. Assumes nothing.
+use Rattle.recordings.proofs.Sent.{by-count}
 use Rattle.recordings.specs.Replay.Rows.{heardText}
 use Rattle.text.proofs.Puts.{then}
 use borrow.Author.Needs.{needs}

@@ -4,12 +4,10 @@ use borrow.Author.Needs.{needs}
 use Rattle.recordings.proofs.replay.rows.hear_row.Statement.{statement}
 use Rattle.recordings.proofs.replay.rows.hear_row.Tie as tie
 
-returns : tie.Need-returns
-unfolding hearRow
-returns c = rw (c .before .before .heard .ensures, c .before .before .before .before .before .before .hear .ensures)
-
 pub hear-row-spec : {M : Type 1} → statement M
+unfolding hearRow
 hear-row-spec =
     tie.close
     (tie.spec
-    (λ c. search needs) (λ c κs. search needs) (λ c. search needs) (λ c κs. search needs) (λ c. search needs) returns)
+    (λ c. search needs) (λ c κs. search needs) (λ c. search needs) (λ c κs. search needs) (λ c. search needs)
+    (λ c. rw (c .before .before .heard .ensures, c .before .before .before .before .before .before .hear .ensures)))

@@ -7,9 +7,6 @@ use borrow.Author.Needs.{needs}
 use Rattle.recordings.proofs.replay.state.start.Statement.{statement}
 use Rattle.recordings.proofs.replay.state.start.Tie as tie
 
-returns : tie.Need-returns
-unfolding begunOn
-returns c = rw (ap {B = Desk} (λ (y : Desk × Done). y .0) (c .before .start .ensures))
-
 pub start-spec : {M : Type 1} → statement M
-start-spec = tie.close (tie.spec (λ c κs. search needs) returns)
+unfolding begunOn
+start-spec = tie.close (tie.spec (λ c κs. search needs) (λ c. rw (ap {B = Desk} (λ (y : Desk × Done). y .0) (c .before .start .ensures))))
