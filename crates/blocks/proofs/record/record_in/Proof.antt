@@ -11,27 +11,21 @@ returns-2 : tie.Need-returns-2
 returns-2 c =
     let q = c .before in
     let r = q .before .before in
-    let b = r .before in
-    other-type (now (b .before .before .args .block)) (r .record-at .result) (q .before .type-of .result) (q .byte-at .result) (b .if1 .left) (r .record-at .ensures) (q .before .type-of .ensures)
-    (q .byte-at .ensures) (c .if2 .taken)
+    other-type _ _ _ _ (r .before .if1 .left) (r .record-at .ensures) (q .before .type-of .ensures) (q .byte-at .ensures) (c .if2 .taken)
 
 returns-3 : tie.Need-returns-3
 returns-3 c =
     let p = c .before .before in
     let q = p .before in
     let r = q .before .before in
-    let b = r .before in
-    other-bytes (now (b .before .before .args .block)) (r .record-at .result) (q .before .type-of .result) (q .byte-at .result) (b .if1 .left) (r .record-at .ensures) (q .before .type-of .ensures)
-    (q .byte-at .ensures) true (p .if2 .left) (sym (c .if3 .taken) ∙ c .before .is-block .ensures)
+    other-bytes _ _ _ _ (r .before .if1 .left) (r .record-at .ensures) (q .before .type-of .ensures) (q .byte-at .ensures) true (p .if2 .left) (sym (c .if3 .taken) ∙ c .before .is-block .ensures)
 
 returns-4 : tie.Need-returns-4
 returns-4 c =
     let p = c .before .before in
     let q = p .before in
     let r = q .before .before in
-    let b = r .before in
-    other-bytes (now (b .before .before .args .block)) (r .record-at .result) (q .before .type-of .result) (q .byte-at .result) (b .if1 .left) (r .record-at .ensures) (q .before .type-of .ensures)
-    (q .byte-at .ensures) false (p .if2 .left) (sym (c .if3 .left) ∙ c .before .is-block .ensures)
+    other-bytes _ _ _ _ (r .before .if1 .left) (r .record-at .ensures) (q .before .type-of .ensures) (q .byte-at .ensures) false (p .if2 .left) (sym (c .if3 .left) ∙ c .before .is-block .ensures)
 
 pub record-in-spec : {M : Type 1} → statement M
 record-in-spec =
