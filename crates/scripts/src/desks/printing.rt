@@ -17,7 +17,6 @@ use desk::heard::Heard;
 use desk::state::Desk;
 use desk::state::Waiting;
 use desk::state::Wanted;
-use text::items::put_record;
 use text::putting::put_byte;
 use text::putting::put_text;
 
@@ -104,10 +103,7 @@ fn put_wanted(out: &mut [u8], at: usize, wanted: Wanted) -> usize
 {
     match wanted {
         Wanted::None => at,
-        Wanted::Is(rec) => {
-            let a = put_text(out, at, b", set ");
-            put_record(out, a, rec)
-        }
+        Wanted::Is(rec) => put_behind(out, at, b", set ", rec),
     }
 }
 

@@ -7,12 +7,12 @@ use crate::printing::begin;
 use crate::printing::end;
 use crate::printing::number;
 use crate::printing::output;
+use crate::printing::put_behind;
 use crate::printing::put_either;
 use crate::tellings::masters::put_answer;
 use master::answers::Answer;
 use master::state::Master;
 use records::records::Record;
-use text::items::put_record;
 use text::putting::put_text;
 
 // What every row of the master ends with: line, number to send, sending count.
@@ -81,8 +81,7 @@ fn put_busy(out: &mut [u8], at: usize, count: u8, t2: u32, rec: Record) -> usize
         return at;
     }
     let a = number(out, at, b", T2 ", t2 as u64);
-    let b = put_text(out, a, b", sends ");
-    put_record(out, b, rec)
+    put_behind(out, a, b", sends ", rec)
 }
 
 // The whole state.

@@ -1,7 +1,6 @@
--- `put_wanted` puts nothing, or its parts one behind the other. Assumes nothing.
+-- `put_wanted` puts nothing, or the record behind its word. Assumes nothing.
 use Rattle.scripts.specs.Desks.Printing.{setText}
 use Rattle.text.specs.Putting.{puts}
-use Rattle.text.proofs.Puts.{then}
 use borrow.Author.Needs.{needs}
 use Rattle.scripts.proofs.desks.printing.put_wanted.Statement.{statement}
 use Rattle.scripts.proofs.desks.printing.put_wanted.Tie as tie
@@ -11,5 +10,5 @@ unfolding puts setText
 put-wanted-spec =
     tie.close
     (tie.spec
-    (λ c. search needs) (λ c. search needs) (λ c. search needs) (λ c κs. search needs) (λ c κs. search needs) (λ c. rw (c .enum-told .given .1))
-    (λ c. search needs) (λ c. rw (c .before .before .before .before .before .before .before .before .before .before .wanted .given .1) (search then)))
+    (λ c. search needs) (λ c. search needs) (λ c. search needs) (λ c κs. search needs) (λ c. rw (c .enum-told .given .1)) (λ c. search needs)
+    (λ c. rw (c .before .before .before .before .before .before .wanted .given .1) (c .before .before .put-behind .ensures)))

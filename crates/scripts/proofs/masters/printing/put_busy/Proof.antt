@@ -7,14 +7,10 @@ use borrow.Author.Needs.{needs}
 use Rattle.scripts.proofs.masters.printing.put_busy.Statement.{statement}
 use Rattle.scripts.proofs.masters.printing.put_busy.Tie as tie
 
-returns-2 : tie.Need-returns-2
-unfolding busyText
-returns-2 c = rw (ne-eqb _ _ (c .before .before .before .before .before .before .before .before .before .before .before .before .before .before .if1 .left)) (search then)
-
 pub put-busy-spec : {M : Type 1} → statement M
 unfolding busyText puts
 put-busy-spec =
     tie.close
     (tie.spec
-    (λ c. rw (c .if1 .taken)) (λ c. search needs) (λ c κs. search needs) (λ c. search needs) (λ c κs. search needs) (λ c κs. search needs)
-    (λ c. search needs) returns-2)
+    (λ c. rw (c .if1 .taken)) (λ c. search needs) (λ c κs. search needs) (λ c. search needs) (λ c κs. search needs) (λ c. search needs)
+    (λ c. rw (ne-eqb _ _ (c .before .before .before .before .before .before .before .before .before .before .if1 .left)) (search then)))
