@@ -20,7 +20,7 @@ fn the_programs_of_the_host() {
     let capture = env!("CARGO_BIN_EXE_capture");
     let compare = env!("CARGO_BIN_EXE_compare");
     for (program, words, usage) in [
-        (env!("CARGO_BIN_EXE_bench"), "x", "bench"),
+        (env!("CARGO_BIN_EXE_bench"), "x", "bench [second|fast]"),
         (capture, "", "capture LINE MIB SEED quiet|busy"),
         (capture, "4 1 7 busy", "capture LINE MIB SEED quiet|busy"),
         (capture, "1 1 7 loud", "capture LINE MIB SEED quiet|busy"),
