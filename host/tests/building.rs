@@ -40,7 +40,8 @@ fn made(name: &str) -> PathBuf {
     for tool in ["tools/build", "tools/input"] {
         fs::copy(repository(tool), folder.join(tool)).expect("a copy");
     }
-    fs::write(folder.join("tools/kit-version"), format!("{KIT}\n")).expect("a file");
+    let kits = format!("{KIT}\nan older kit\n");
+    fs::write(folder.join("tools/kit-version"), kits).expect("a file");
     program(&folder.join("tools/kit"), "#!/bin/sh\necho \"$1\"\n");
     fs::write(folder.join("crates.txt"), "one:\ntwo: one io\nthree: two\n").expect("a file");
     program(&folder.join("bin/rt"), RT);
@@ -118,6 +119,8 @@ fn a_kit_that_is_missing_or_another() {
     let mut other = building(&folder, &["check", "three"], "kit 7", "");
     let status = other.env("ANY_KIT", "1").output().expect("it runs").status;
     assert!(status.success(), "ANY_KIT=1 takes another kit");
+    let older = build(&folder, &["check", "three"], "an older kit", "");
+    assert!(older.status.success(), "any kit that is listed is taken");
     stops(
         &build(&folder, &["check"], KIT, ""),
         "usage: tools/build check|archive NAME",
