@@ -16,7 +16,12 @@ if [ "$2" = nothing ]; then mkdir -p target/inc/nothing/kept-here; exit; fi
 echo "crate $2: modules loaded=8 checked=${CHECKED:-0}"
 case $(cat "crates/$2/src/lib.rt") in
 *wrong*) echo "$PWD/crates/$2/proofs/one/Proof.antt:3:5: error: 126 expected, 125 found" ;;
-*shapeless*) echo "$PWD/crates/$2/proofs/one/Proof.antt:3:5: error: nothing that can be named from here" ;;
+*unnamed*) echo "$PWD/crates/$2/proofs/one/Proof.antt:3:5: error: nothing that can be named from here" ;;
+*unplaced*) echo "$PWD/crates/$2/proofs/one/Proof.antt:3:5: error: \`one-spec\`: record \`a.Lts.Start\` has no field \`if7\`" ;;
+*longer*) echo "$PWD/crates/$2/proofs/one/Proof.antt:3:5: error: \`one-spec\`: expected type \`a.Lts.Closed b c\`" ;;
+*shorter*) echo "$PWD/crates/$2/proofs/one/Proof.antt:3:5: error: \`one-spec\`: this λ is checked against \`a\`, which is not a function or extension (path) type" ;;
+*narrower*) echo "$PWD/crates/$2/proofs/one/Proof.antt:3:5: error: \`one-spec\`: this λ has 2 binders, but its type has room for only 1" ;;
+*wider*) echo "$PWD/crates/$2/proofs/one/Proof.antt:3:5: error: \`one-spec\`: \`search\`: no proof of \`denote.Triple.Entry.Res a\`" ;;
 *broken*) echo "rattle: a comma is missing"; exit 2 ;;
 *) echo "logic=proved functions=1"; exit ;;
 esac
@@ -87,12 +92,17 @@ fn a_wrong_program_is_refused() {
     assert_eq!(source.expect("the source"), "right once\nright twice\n");
 }
 
-/// What an edit must not be.
+/// What an edit must not be: right, no edit at all, or refused because the proof has another shape than the code.
 #[test]
 fn no_other_edit_passes() {
     for (name, text, why) in [
         ("right", edit("right once", "so once"), "NOT REFUSED"),
-        ("shapeless", edit("right once", "shapeless"), "BAD EDIT"),
+        ("unnamed", edit("right once", "unnamed"), "BAD EDIT"),
+        ("unplaced", edit("right once", "unplaced"), "BAD EDIT"),
+        ("longer", edit("right once", "longer"), "BAD EDIT"),
+        ("shorter", edit("right once", "shorter"), "BAD EDIT"),
+        ("narrower", edit("right once", "narrower"), "BAD EDIT"),
+        ("wider", edit("right once", "wider"), "BAD EDIT"),
         ("broken", edit("right once", "broken"), "BAD EDIT"),
         ("absent", edit("left", "wrong"), "BAD EDIT"),
         ("twice there", edit("right", "wrong"), "BAD EDIT"),

@@ -194,9 +194,12 @@ fn unused(text: &str) -> Vec<String> {
         .partition(|line| line.trim_start().starts_with("use "));
     let apart = |c: char| c.is_whitespace() || "(){},;.".contains(c);
     let words: BTreeSet<_> = rest.iter().flat_map(|line| line.split(apart)).collect();
-    let lists = uses.iter().filter_map(|line| line.split_once('{'));
-    lists
-        .flat_map(|(_, list)| list.trim_end().trim_end_matches('}').split(','))
+    let brought = uses.iter().flat_map(|line| match line.split_once('{') {
+        Some((_, list)) => list.trim_end().trim_end_matches('}').split(',').collect(),
+        None if line.contains(" as ") => vec![line.as_str()],
+        None => vec![],
+    });
+    brought
         .filter_map(|name| name.rsplit(" as ").next().map(str::trim))
         .filter(|name| !words.contains(name) && !words.contains(name.trim_matches('_')))
         .map(String::from)
@@ -205,8 +208,8 @@ fn unused(text: &str) -> Vec<String> {
 
 #[test]
 fn no_name_is_brought_in_for_nothing() {
-    let some = "use a.{_+_, b, c as d}\nuse e.{f}\nd : b + b -- f\n";
-    assert_eq!(unused(some), ["f"]);
+    let some = "use a.{_+_, b, c as d}\nuse e.{f}\nuse g as h\nuse i as j\nd : b + j.b -- f\n";
+    assert_eq!(unused(some), ["f", "h"]);
     let mut found = Vec::new();
     sources(&repository("crates"), &mut found);
     for path in found
@@ -226,7 +229,7 @@ fn lines_and_files_are_short() {
         let text = fs::read_to_string(&path).expect("it is read");
         let longest = text.lines().map(|l| l.chars().count()).max().unwrap_or(0);
         assert!(
-            longest <= 400,
+            longest <= 240,
             "{path:?} has a line of {longest} characters: bind its parts to names, or break it"
         );
         let proof = path.components().any(|c| c.as_os_str() == "proofs");

@@ -16,7 +16,6 @@ use Rattle.records.specs.Answers.{accepted, refused}
 use Rattle.characters.specs.Marks.{lf, cr}
 use Rattle.reading.specs.Reading.{checks, readingOf}
 use Rattle.papers.specs.Cases.{framed}
-use Rattle.reading.proofs.Contents as contents
 
 -- bytes on a line, the number of their refusal and its place
 pub record Refused : Type 0 where

@@ -1,6 +1,6 @@
 -- Checks 1 to 7, one after the other. Assumes nothing.
-use mathlib.Core.Path.{_≡_}
-use mathlib.Core.Bool.{true, false}
+use mathlib.Core.Path.{_≡_, sym, ap, _∙_}
+use mathlib.Core.Bool.{Bool, true, false}
 use mathlib.Core.List.{List, [], _∷_}
 use Prim.Native.Nat.{ℕ, _+_, _-_, _/_, _%_, _≤_, _<_}
 use lib.ListN.{length, drop, getD}
@@ -24,6 +24,11 @@ unfolding checkText
 sum-two sum high low e f = rw (e, f)
 
 module _ (s : List ℕ) where
+  -- the test of the checksum's two characters, as the code comes to it
+  pub sum-test : (part : List ℕ) (sum high low : ℕ) (two : Bool) → part ≡ summedOf s → sum ≡ checksumOf part → high ≡ hexOf (sum / 16) → low ≡ hexOf sum
+      → two ≡ isTwo s (length s - 3) (high ∷ low ∷ []) → isTwo s (length s - 3) (checkText (checksumOf (summedOf s))) ≡ two
+  sum-test part sum high low two p e h l t = sym (t ∙ ap (isTwo s (length s - 3)) (sum-two sum high low h l ∙ ap checkText (e ∙ ap checksumOf p)))
+
   pub short : length s < 10 → fails (no 1 0) ≡ firstFault 1 (frameChecks s)
   unfolding frameChecks
   short h = rw (lt-leb _ _ h)

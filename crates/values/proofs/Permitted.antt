@@ -1,24 +1,14 @@
 -- What a packet permits, by the arm that its letter comes to. Assumes nothing.
 use mathlib.Core.Path.{_≡_, refl}
-use mathlib.Core.Bool.{true, false}
+use mathlib.Core.Bool.{false}
 use mathlib.Core.List.{[], _∷_}
 use Prim.Native.Nat.{ℕ}
 use Prim.Native.Char.{code}
-use Rattle.laws.specs.Truth.{oneOf}
 use Rattle.laws.specs.Text.{codes}
-use Rattle.values.specs.Packets.{permits, digit}
+use Rattle.values.specs.Packets.{permits}
 use Rattle.laws.proofs.Keys.{each, Misses, missed, missed-all}
 
 module _ (line kind letter at b : ℕ) where
-  -- the letter of an arm of one letter
-  pub at-letter : (k : ℕ) → letter ≡ k → permits line kind k at b ≡ permits line kind letter at b
-  at-letter k e = rw e
-
-  -- letters of digits
-  pub at-digits : oneOf (codes "L%HESDCTR") letter ≡ true → digit b ≡ permits line kind letter at b
-  unfolding permits
-  at-digits e = rw e
-
   -- no arm's letter
   pub at-none : Misses (each (codes "ABZYXWVMNUmPF") (codes "CRT" ∷ codes "DS" ∷ codes "%EHL" ∷ [])) letter → false ≡ permits line kind letter at b
   unfolding permits

@@ -1,11 +1,7 @@
+-- `desk::applying::apply` does what the rule that settles a hearing says. Assumes nothing.
 use borrow.Author.Needs.{needs}
 use Rattle.desk.proofs.applying.apply.Statement.{statement}
 use Rattle.desk.proofs.applying.apply.Tie as tie
-use Rattle.desk.proofs.applying.apply.Reads as reads
-use Rattle.desk.proofs.applying.apply.Lts as lts
-use Rattle.desk.proofs.applying.fault.Reads as fault-reads
-use Rattle.desk.proofs.applying.handle.Reads as handle-reads
-use Rattle.desk.proofs.applying.repeat.Reads as repeat-reads
 
 fault-requires : tie.Need-fault-requires
 fault-requires c κs = let p = c .before .before .before .before .before .pre in (p .0, rw (c .before .before .rule2 .given .1) at (p .1), p .2)

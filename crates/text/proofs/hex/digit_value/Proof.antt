@@ -7,4 +7,8 @@ use Rattle.text.proofs.hex.digit_value.Statement.{statement}
 use Rattle.text.proofs.hex.digit_value.Tie as tie
 
 pub digit-value-spec : {M : Type 1} → statement M
-digit-value-spec = tie.close (tie.spec (λ c. search needs) (λ c. says-low _ (omega arith) (omega arith)) (λ c. says-high _ (omega arith) (omega arith)) (λ c. says-none _ (inl (omega arith))) (λ c. says-none _ (inr (inl (omega arith, omega arith)))) (λ c. says-none _ (inr (inr (omega arith)))))
+digit-value-spec =
+    tie.close
+    (tie.spec
+    (λ c. search needs) (λ c. says-low _ (omega arith) (omega arith)) (λ c. says-high _ (omega arith) (omega arith))
+    (λ c. says-none _ (inl (omega arith))) (λ c. says-none _ (inr (inl (omega arith, omega arith)))) (λ c. says-none _ (inr (inr (omega arith)))))
