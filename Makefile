@@ -21,6 +21,7 @@ PANEL =
 
 PREFIX ?= /usr/local
 BINDIR ?= $(PREFIX)/bin
+LIBEXECDIR ?= $(PREFIX)/libexec
 LIBDIR ?= $(PREFIX)/lib
 INCLUDEDIR ?= $(PREFIX)/include
 MANDIR ?= $(PREFIX)/share/man
@@ -88,8 +89,10 @@ try: dist/examples/try dist/examples/panel dist/examples/bench
 	@dist/examples/try dist/examples/panel dist/examples/bench
 
 install: all
-	@$(INSTALL) -d "$(DESTDIR)$(BINDIR)" "$(DESTDIR)$(INCLUDEDIR)" "$(DESTDIR)$(LIBDIR)/pkgconfig" "$(DESTDIR)$(MANDIR)/man1" "$(DESTDIR)$(MANDIR)/man3"
-	@$(INSTALL) -m 755 dist/listing dist/replay dist/scenes "$(DESTDIR)$(BINDIR)"
+	@$(INSTALL) -d "$(DESTDIR)$(INCLUDEDIR)" "$(DESTDIR)$(LIBDIR)/pkgconfig" "$(DESTDIR)$(MANDIR)/man1" "$(DESTDIR)$(MANDIR)/man3"
+	@for program in listing replay scenes; do \
+	  DESTDIR='$(DESTDIR)' INSTALL='$(INSTALL)' tools/install-program dist/$$program "$(BINDIR)" "$(LIBEXECDIR)" || exit; \
+	done
 	@$(INSTALL) -m 644 dist/libin656.a "$(DESTDIR)$(LIBDIR)"
 	@$(INSTALL) -m 755 dist/$(SONAME) "$(DESTDIR)$(LIBDIR)" && ln -sf $(SONAME) "$(DESTDIR)$(LIBDIR)/libin656.so"
 	@$(INSTALL) -m 644 include/in656.h "$(DESTDIR)$(INCLUDEDIR)"

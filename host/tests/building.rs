@@ -7,7 +7,8 @@ use machine::{program, repository};
 use std::fs;
 use std::os::unix::fs::symlink;
 use std::path::{Path, PathBuf};
-use std::process::{Command, Output};
+use std::process::{Command, Output, Stdio};
+use std::time::Duration;
 
 const KIT: &str = "kit of the test";
 
@@ -15,12 +16,15 @@ const KIT: &str = "kit of the test";
 const RT: &str = r#"#!/bin/sh
 case $1 in
 version) echo "$KIT"; exit ;;
+check) echo begins >>turns ;;
 staticlib) echo "an archive of $2 by $RATTLE_HOME"; exit ;;
 esac
 mkdir -p target/log
 for crate in one two three; do
   echo "rt: a line of the prover on $crate" >target/log/$crate.out
-  sleep 1.3
+  sleep 1.3 &
+  echo $! >child
+  wait
   if [ "$crate" = "$FAILS" ]; then
     echo "rt: $crate NOT PROVED (exit 1, 1 s)" >>target/log/$crate.out
     cat target/log/$crate.out
@@ -29,6 +33,7 @@ for crate in one two three; do
   echo "rt: $crate proved (1 s)" >>target/log/$crate.out
   cat target/log/$crate.out
 done
+echo ends >>turns
 "#;
 
 /// A repository of three crates with the tools, and a folder with the stand-in.
@@ -142,6 +147,65 @@ fn a_kit_that_is_missing_or_another() {
         .env("PATH", folder.join("bin"))
         .output();
     stops(&output.expect("it runs"), "build: rt is not found: install the Rattle kit (kit of the test) and put its bin folder into PATH");
+}
+
+/// Two builds in one folder take turns, and the second says that it waits.
+#[test]
+fn two_builds() {
+    let folder = made("two builds");
+    let start = || {
+        let mut command = building(&folder, &["check", "three"], KIT, "");
+        command.stderr(Stdio::piped()).spawn().expect("it starts")
+    };
+    let first = start();
+    wait_for(&folder.join("turns"));
+    let second = start();
+    let ended = [first, second].map(|child| child.wait_with_output().expect("it ends"));
+    assert!(ended.iter().all(|output| output.status.success()));
+    let said = ended.map(|output| text(&output.stderr));
+    let waits = "build: another build is at work in this folder; this one waits for it\n";
+    assert!(said[1].starts_with(waits) && !said[0].contains(waits));
+    let turns = fs::read_to_string(folder.join("turns")).expect("the turns");
+    assert_eq!(turns, "begins\nends\nbegins\nends\n");
+}
+
+/// A build that is interrupted leaves nothing running, and the next one need not wait.
+#[test]
+fn an_interrupted_build() {
+    for signal in ["INT", "TERM", "HUP"] {
+        let folder = made(&format!("a build ended by {signal}"));
+        let mut build = building(&folder, &["check", "three"], KIT, "")
+            .stderr(Stdio::null())
+            .spawn()
+            .expect("it starts");
+        wait_for(&folder.join("child"));
+        let child = fs::read_to_string(folder.join("child")).expect("a number");
+        let stat = Path::new("/proc").join(child.trim()).join("stat");
+        // one that has ended and was not asked for has the letter Z there
+        let runs = || fs::read_to_string(&stat).is_ok_and(|text| !text.contains(") Z "));
+        assert!(runs(), "the prover is at work");
+        let number = build.id().to_string();
+        let mut kill = Command::new("kill");
+        let sent = kill.args(["-s", signal, &number]).status();
+        assert!(sent.expect("it is sent").success());
+        assert_eq!(build.wait().expect("it ends").code(), Some(130));
+        let ended = (0..20).any(|_| {
+            std::thread::sleep(Duration::from_millis(50));
+            !runs()
+        });
+        assert!(ended, "{signal} ends the prover too");
+        let turns = fs::read_to_string(folder.join("turns")).expect("the turns");
+        assert_eq!(turns, "begins\n");
+    }
+}
+
+/// Waits until a file has something in it.
+fn wait_for(file: &Path) {
+    let there = (0..200).any(|_| {
+        std::thread::sleep(Duration::from_millis(50));
+        fs::read(file).is_ok_and(|bytes| bytes.ends_with(b"\n"))
+    });
+    assert!(there, "{} is written", file.display());
 }
 
 #[test]

@@ -15,8 +15,8 @@ use host::second::desk::{Hearing, Refusal};
 use host::second::logs::{entries, Mark};
 use host::second::master::Told;
 use host::second::records::Record;
-use host::second::replay::replay;
-use host::second::words::{hearing, ticked};
+use host::second::replay::{replay, told};
+use host::second::words::ticked;
 use host::second::Second;
 use running::REPLAY;
 use std::env::consts::ARCH;
@@ -32,6 +32,7 @@ fn repository(path: &str) -> PathBuf {
 /// that noted the line lost.
 struct Kept<E> {
     ends: E,
+    line: u8,
     did: Vec<String>,
 }
 
@@ -46,11 +47,13 @@ impl<E: Ends> Ends for Kept<E> {
 
     fn desk_hear(&mut self, now: u32, room: usize, frame: &[u8]) -> Result<Hearing, Refusal> {
         let answer = self.ends.desk_hear(now, room, frame);
-        self.did.push(format!("{now} {}", hearing(answer.clone())));
+        let words = told(self.line, frame, answer.clone());
+        self.did.push(format!("{now} {words}"));
         answer
     }
 
     fn start(&mut self, line: u8, now: u32) {
+        self.line = line;
         self.ends.start(line, now);
     }
 
@@ -82,7 +85,7 @@ impl<E: Ends> Ends for Kept<E> {
 /// What a run's desk did, the answers that it made for telegrams that it handled, and the run's log.
 fn shown(ends: impl Ends, line: u8, seed: u64) -> (Vec<String>, Vec<String>, Vec<u8>) {
     let did = Vec::new();
-    let mut kept = Kept { ends, did };
+    let mut kept = Kept { ends, line, did };
     let happened = run(&mut kept, &IDLE, line, seed, 90_000);
     let handled = history(&happened)
         .into_iter()

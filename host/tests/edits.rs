@@ -22,6 +22,7 @@ case $(cat "crates/$2/src/lib.rt") in
 *shorter*) echo "$PWD/crates/$2/proofs/one/Proof.antt:3:5: error: \`one-spec\`: this λ is checked against \`a\`, which is not a function or extension (path) type" ;;
 *narrower*) echo "$PWD/crates/$2/proofs/one/Proof.antt:3:5: error: \`one-spec\`: this λ has 2 binders, but its type has room for only 1" ;;
 *wider*) echo "$PWD/crates/$2/proofs/one/Proof.antt:3:5: error: \`one-spec\`: \`search\`: no proof of \`denote.Triple.Entry.Res a\`" ;;
+*senseless*) echo "$PWD/crates/$2/specs/One.antt:3:5: error: the \`(\` at 3:2 is never closed" ;;
 *broken*) echo "rattle: a comma is missing"; exit 2 ;;
 *) echo "logic=proved functions=1"; exit ;;
 esac
@@ -29,8 +30,25 @@ echo "logic=not-proved"
 exit 1
 "#;
 
-/// A repository of two crates, the upper one with this edit, where both are proved.
-fn made(name: &str, edit: &str) -> PathBuf {
+/// A repository of two crates. It goes with the test: rt would look through its crates too.
+struct Made(PathBuf);
+
+impl std::ops::Deref for Made {
+    type Target = Path;
+
+    fn deref(&self) -> &Path {
+        &self.0
+    }
+}
+
+impl Drop for Made {
+    fn drop(&mut self) {
+        let _ = fs::remove_dir_all(&self.0);
+    }
+}
+
+/// Such a repository, the upper crate with this edit, where both are proved.
+fn made(name: &str, edit: &str) -> Made {
     let folder = Path::new(env!("CARGO_TARGET_TMPDIR")).join(format!("edits {name}"));
     let _ = fs::remove_dir_all(&folder);
     for part in [
@@ -56,7 +74,7 @@ fn made(name: &str, edit: &str) -> PathBuf {
     ] {
         fs::write(folder.join(file), text).expect("a file");
     }
-    folder
+    Made(folder)
 }
 
 /// The last line that the tool prints, what it says before that, and whether it ended well.
@@ -103,6 +121,7 @@ fn no_other_edit_passes() {
         ("shorter", edit("right once", "shorter"), "BAD EDIT"),
         ("narrower", edit("right once", "narrower"), "BAD EDIT"),
         ("wider", edit("right once", "wider"), "BAD EDIT"),
+        ("senseless", edit("right once", "senseless"), "BAD EDIT"),
         ("broken", edit("right once", "broken"), "BAD EDIT"),
         ("absent", edit("left", "wrong"), "BAD EDIT"),
         ("twice there", edit("right", "wrong"), "BAD EDIT"),

@@ -12,8 +12,8 @@ use host::second::desk::ROOM;
 use host::second::face::Face;
 use host::second::framing::framed;
 use host::second::logs::{entries, Entry, Mark, HEAD};
-use host::second::replay::{replay, replayed};
-use host::second::words::{hearing, ticked};
+use host::second::replay::{replay, replayed, told};
+use host::second::words::ticked;
 use host::second::Second;
 use running::{on_line, REPLAY};
 
@@ -47,13 +47,13 @@ fn each_row_of_a_log() {
             Mark::Master,
             30,
             b"\n08t1Bt3D\r",
-            "7 86 30 handled, key A, 10 bytes <08A1AAA4>",
+            "7 86 30 handled, t 116, key A, 10 bytes <08A1AAA4>",
         ),
         (
             Mark::Master,
             31,
             b"\n08r0BB72\r",
-            "8 103 31 handled, nothing set, 10 bytes <08N0NA8B>",
+            "8 103 31 handled, r 66, nothing set, 10 bytes <08N0NA8B>",
         ),
         (
             Mark::Master,
@@ -65,7 +65,7 @@ fn each_row_of_a_log() {
             Mark::Master,
             33,
             &framed(b'N', b'0', b"N1"),
-            "10 137 33 handled, not the master's, 10 bytes <08N0NA8B>",
+            "10 137 33 handled, N 49, not the master's, 10 bytes <08N0NA8B>",
         ),
         (Mark::Hit, 28_032, b"", "11 154 28032 done"),
         (Mark::Hit, 28_033, b"", "12 161 28033 line noted lost"),
@@ -197,11 +197,11 @@ fn random_logs() {
         "silent, no 4 1",
         "fault, 10 bytes <08N",
         "repeat, 10 bytes <08A",
-        "handled, key A, ",
+        ", key A, ",
         "handled, panel ",
         "handled, contents no 11 ",
-        "handled, not the master's, ",
-        "handled, nothing set, ",
+        ", not the master's, ",
+        "handled, r 66, nothing set, ",
         "line noted lost, handled, ",
         "line noted lost, silent, ",
         "line noted lost, fault, ",
@@ -211,6 +211,10 @@ fn random_logs() {
         "\nno 20 ",
     ] {
         assert!(texts.contains(what), "{what} does not occur");
+    }
+    for unnamed in ["key ", "not the master's", "nothing set"] {
+        let row = format!("handled, {unnamed}");
+        assert!(!texts.contains(&row), "{row} does not name its record");
     }
 }
 
@@ -237,7 +241,10 @@ fn by_hand(ends: &mut impl Ends, input: &[u8]) -> String {
         move |entry: &Entry| match entry.mark {
             Mark::Slave => None,
             Mark::Hit => Some(ticked(ends.desk_tick(entry.time))),
-            Mark::Master => Some(hearing(ends.desk_hear(entry.time, ROOM, entry.bytes))),
+            Mark::Master => {
+                let answer = ends.desk_hear(entry.time, ROOM, entry.bytes);
+                Some(told(line, entry.bytes, answer))
+            }
         }
     })
 }

@@ -7,7 +7,9 @@ mod tracing;
 use std::collections::{BTreeMap, BTreeSet};
 use std::io::Write;
 use tracing::edits::{first_line, FORM};
-use tracing::pages::{cited, promised, promises, rows, rules, traced, uncoded, Row, COLUMNS};
+use tracing::pages::{
+    cited, parts, promised, promises, rows, rules, traced, uncoded, Row, COLUMNS,
+};
 use tracing::tree::{declared, function, in_input, items, sources, Tree};
 use tracing::{none, repository, text};
 
@@ -164,9 +166,84 @@ fn each_public_function_has_a_rule() {
     none(&faults);
 }
 
+/// The types of states.
+const STATES: [&str; 5] = ["Desk", "Master", "Gatherer", "Lister", "Replayer"];
+
+/// Whether a function takes a line or a state, by its name and the text of its file from its line on.
+fn takes_a_state(name: &str, behind: &str) -> bool {
+    let taken = behind.split(')').next().unwrap_or("");
+    let of = |state: &&str| {
+        let own = name.contains(&format!("::{state}::")) && taken.contains("(self");
+        own || taken.contains(&format!(": {state}"))
+    };
+    taken.contains("line: u8") || STATES.iter().any(|state| of(&state))
+}
+
+/// A public function that takes a line or a state is a call, which may refuse 15, or is listed as a part.
+#[test]
+fn each_part_is_listed() {
+    let tree = Tree::read();
+    let page = text(PROMISES);
+    let promises = promises(&page, &tree);
+    let calls = promises
+        .iter()
+        .filter(|p| p.refusals.contains("15") || p.refusals.contains("calls"));
+    let calls: BTreeSet<_> = calls.flat_map(|p| p.functions.clone()).collect();
+    let parts: BTreeSet<_> = parts(&page).into_iter().collect();
+    let mut faults = Vec::new();
+    for (name, function) in tree.functions.iter().filter(|(_, f)| f.public) {
+        let (path, line) = function.at.rsplit_once(':').expect("a place");
+        let line: usize = line.parse().expect("a number");
+        let source = text(path);
+        let behind: Vec<_> = source.lines().skip(line - 1).collect();
+        if name.starts_with("in656 ") || !takes_a_state(name, &behind.join(" ")) {
+            continue;
+        }
+        if calls.contains(name) == parts.contains(name) {
+            faults.push(format!("{}: `{name}` takes a line or a state: let it refuse 15, or make it `pub(crate)`, or list it as a part in {PROMISES}", function.at));
+        }
+    }
+    for name in parts {
+        if !tree.functions.get(&name).is_some_and(|f| f.public) {
+            faults.push(format!(
+                "{PROMISES}: `{name}` is no public function: take it out of the parts"
+            ));
+        }
+    }
+    none(&faults);
+}
+
+/// No public function asks anything of its caller, and each of a library ensures something; the few
+/// of `stdio` that only read or write ensure nothing that could be said (DECISIONS 53).
+#[test]
+fn each_public_function_asks_nothing() {
+    let mut faults = Vec::new();
+    for (name, function) in Tree::read().functions.iter().filter(|(_, f)| f.public) {
+        let (path, line) = function.at.rsplit_once(':').expect("a place");
+        let line: usize = line.parse().expect("a number");
+        let source = text(path);
+        let behind = source.lines().skip(line - 1);
+        let head: Vec<_> = behind.take_while(|l| !matches!(l.trim(), "{")).collect();
+        let head: Vec<_> = head.iter().map(|line| line.trim_start()).collect();
+        let has = |word: &str| head.iter().any(|line| line.starts_with(word));
+        if has("requires ") {
+            faults.push(format!(
+                "{}: `{name}` asks something of its caller",
+                function.at
+            ));
+        }
+        if !has("ensures ") && !name.starts_with("stdio ") {
+            faults.push(format!("{}: `{name}` ensures nothing", function.at));
+        }
+    }
+    none(&faults);
+}
+
 #[test]
 fn each_edit_says_what_it_breaks() {
     let tree = Tree::read();
+    let promises = promises(&text(PROMISES), &tree);
+    let promised: BTreeSet<_> = promises.into_iter().flat_map(|p| p.functions).collect();
     let rules: BTreeSet<_> = rules(&text(RULES)).into_iter().map(|(id, _)| id).collect();
     let mut faults = Vec::new();
     for path in &tree.unreadable {
@@ -175,9 +252,8 @@ fn each_edit_says_what_it_breaks() {
     for edit in &tree.edits {
         for name in &edit.breaks {
             let whole = format!("{} {name}", edit.krate);
-            let public = tree.functions.get(&whole).is_some_and(|f| f.public);
-            if !public && !tree.declarations.contains(&whole) {
-                faults.push(format!("{}:1: `{name}` is no public function, definition or theorem of {}: name one that it breaks", edit.path, edit.krate));
+            if !promised.contains(&whole) && !tree.declarations.contains(&whole) {
+                faults.push(format!("{}:1: `{name}` is no function of {PROMISES}, definition or theorem of {}: name one that it breaks", edit.path, edit.krate));
             }
         }
         for rule in edit.rules.iter().filter(|rule| !rules.contains(*rule)) {

@@ -1,5 +1,5 @@
 //! What the programs `listing` and `replay` do where reading or writing fails, or is not ready: they
-//! say so on standard error, and `tools/run` ends with status 1.
+//! say so on standard error, and `tools/run` ends with status 1. So do the programs as installed.
 
 use host::programs::built::{built, command};
 use host::second::listing::listing;
@@ -175,5 +175,35 @@ fn input_that_is_not_ready() {
         assert_eq!(String::from_utf8_lossy(&output.stderr), "");
         assert_eq!(output.status.code(), Some(0));
         assert!(output.stdout == prints.as_bytes(), "all is read");
+    }
+}
+
+/// Programs as `make install` installs them: their status is 0, 1 on trouble, 2 on an argument.
+#[test]
+fn installed_programs() {
+    let root = Path::new(env!("CARGO_TARGET_TMPDIR")).join("a root");
+    let _ = std::fs::remove_dir_all(&root);
+    let prefix = root.join("usr/local");
+    for name in ["listing", "replay", "scenes"] {
+        let status = Command::new(repository("tools/install-program"))
+            .arg(built(name, ARCH))
+            .args([prefix.join("bin"), prefix.join("libexec")])
+            .status();
+        assert!(status.expect("it runs").success());
+        let installed = |word: Option<&str>, to: Stdio| {
+            let mut program = Command::new(prefix.join("bin").join(name));
+            program.args(word).stdin(sample(name)).stdout(to);
+            let output = program.stderr(Stdio::piped()).output().expect("it runs");
+            let words = String::from_utf8_lossy(&output.stderr).into_owned();
+            (output.status.code(), words)
+        };
+        assert_eq!(installed(None, Stdio::null()), (Some(0), String::new()));
+        let full = File::options().write(true).open("/dev/full");
+        let (status, words) = installed(None, full.expect("/dev/full is there").into());
+        assert_eq!(status, Some(1), "{words}");
+        assert!(words.starts_with(&format!("{name}: writing: No space left on device\n")));
+        let (status, words) = installed(Some("--help"), Stdio::null());
+        assert_eq!(status, Some(2));
+        assert!(words.starts_with(&format!("usage: {name} < ")), "{words}");
     }
 }

@@ -19,7 +19,14 @@ pub fn flag_byte(on: bool) -> u8
 }
 
 // Puts an end's line, whether it is good, its number and one byte more.
-pub fn put_head(out: &mut [u8], at: usize, line: u8, good: bool, number: u8, more: u8) -> usize
+pub(crate) fn put_head(
+    out: &mut [u8],
+    at: usize,
+    line: u8,
+    good: bool,
+    number: u8,
+    more: u8,
+) -> usize
     ensures { λ r. ⌜ (r, now (out .exit)) ≡ puts (headBytes line good number more) at (now (out .entry)) ⌝ }
 {
     let a = put_byte(out, at, line);

@@ -71,7 +71,7 @@ impl Lister {
     }
 
     // What refuses a turn: 15, then 14.
-    pub fn list_check(self, len: usize, got: usize, room: usize) -> Check
+    pub(crate) fn list_check(self, len: usize, got: usize, room: usize) -> Check
         ensures { λ r. ⌜ faultOf r ≡ listFault self len got room ⌝ }
     {
         if !self.place_fits() {
@@ -93,7 +93,7 @@ impl Lister {
     }
 
     // The line: the state's, or the one that the first byte names.
-    pub fn line_for(self, s: &[u8]) -> u8
+    pub(crate) fn line_for(self, s: &[u8]) -> u8
         ensures { λ r. ⌜ r ≡ lineFor self (now (s .entry)) ⌝ }
     {
         if self.line == 0 {
@@ -116,7 +116,7 @@ impl Lister {
     }
 
     // What a turn does, with so many bytes got and these at hand.
-    pub fn task(self, got: usize, s: &[u8]) -> Task
+    pub(crate) fn task(self, got: usize, s: &[u8]) -> Task
         ensures { λ r. ⌜ r ≡ taskFor (self .wants) self got (now (s .entry)) ⌝ }
     {
         let wants = self.wants;
@@ -128,7 +128,7 @@ impl Lister {
     }
 
     // All is said.
-    pub fn ended(self) -> Lister
+    pub(crate) fn ended(self) -> Lister
         ensures { λ r. ⌜ r ≡ ended self ⌝ }
     {
         Lister {

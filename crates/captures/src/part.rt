@@ -44,7 +44,14 @@ pub struct Listed {
 }
 
 // The lines of the telegrams from a place on, as many as there is room for.
-pub fn list_part(line: u8, ordinal: u64, base: u64, s: &[u8], from: usize, out: &mut [u8]) -> Listed
+pub(crate) fn list_part(
+    line: u8,
+    ordinal: u64,
+    base: u64,
+    s: &[u8],
+    from: usize,
+    out: &mut [u8],
+) -> Listed
     ensures { λ r. ⌜ (r, now (out .exit)) ≡ listPart line ordinal base (now (s .entry)) from (now (out .entry)) ⌝ }
 {
     let mut next = from;

@@ -89,7 +89,7 @@ sent-front t out = take-append-seam t (drop (length t) out)
 from-slave : (a line : ℕ) → a ≡ line → (rec : Record) (number : ℕ) → permitsRecord a rec ≡ true → bySlave a (typeOf rec) ≡ true → number < 2 → FromSlave line (telegramOf a rec number)
 from-slave a line e rec number p s n = rw (← e) (rec, number, written-reads a rec number p n, s)
 
-so-true : (b : Bool) → So b → b ≡ true
+pub so-true : (b : Bool) → So b → b ≡ true
 so-true true p = refl
 so-true false p = absurd p
 

@@ -7,3 +7,8 @@ pub mod Theorem
 pub mod Verdicts
 pub mod Spoilt
 pub mod Told
+pub mod LiveSteps
+pub mod LiveDesk
+pub mod LiveTicks
+pub mod LiveSupposed
+pub mod LivePromised

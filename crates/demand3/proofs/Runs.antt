@@ -28,8 +28,10 @@ use Rattle.desk.specs.State as s
 use Rattle.desk.specs.Panel as p
 use Rattle.desk.specs.Hearing as h
 use Rattle.demand3.specs.Runs.{Runs, AllowedRuns}
+use Rattle.demand3.specs.Outside.{OutsideRuns, NotAllowed}
+use Rattle.demand3.specs.LiveRuns.{AtBounds, PastBounds}
 
-computed : Runs × AllowedRuns
+computed : Runs × AllowedRuns × OutsideRuns × NotAllowed × AtBounds × PastBounds
 unfolding numeralOn numberOn leftOf inSet total checksumOf checkText lineOf forms onLine lookIn typeRow formOf dataType slotsIn countOf slotsOf
     widthIn widthOf recordOf leadOf isDecimal permits ruled permitsNumber permitsRecord textOf narrow valueOf numberWidth permittedFrom numberFits
     permitted permitsValue permitsValues countText summedOf fieldOf frameOf f.bodyOf frameChecks dataOf outside wrongLetter badValue valuesIn
@@ -38,8 +40,12 @@ unfolding numeralOn numberOn leftOf inSet total checksumOf checkText lineOf form
     u.wantedFits s.numbersFit s.recordsFit s.inRanges s.startOf p.losesLine p.notedOf p.tickOf p.recordFault p.queueOf p.setOf p.keyFault p.keyOf
     r.repeats r.matterIn r.goodFrame r.badFrame r.rulingIn q.keyOn q.polledOf h.faultedOf h.repeatedOf h.handledOf h.heardOf h.hearOf
 computed = (
-  ((refl, (refl, (refl, (refl, (refl, (refl, (refl, (refl, tt)))))))), (refl, (refl, tt)), refl, refl),
+  ((refl, (refl, (refl, (refl, (refl, (refl, (refl, (refl, tt)))))))), (refl, (refl, tt))),
   ((tt, (tt, (tt, (tt, (tt, (tt, (tt, (tt, (tt, tt))))))))), λ q. q),
+  (refl, refl, refl, refl, refl),
+  (tt, ((λ q. q), ((λ q. q), ((λ q. q), ((λ q. q), tt))))),
+  (((tt, tt, tt), refl), tt, tt, ((tt, tt, tt), refl), tt),
+  (((tt, tt, tt), refl), tt, tt, ((tt, tt, tt), refl), tt, tt, ((tt, tt, tt), refl), tt),
 )
 
 pub runs : Runs
@@ -47,3 +53,15 @@ runs = computed .0
 
 pub allowed-runs : AllowedRuns
 allowed-runs = computed .1
+
+pub outside-runs : OutsideRuns
+outside-runs = computed .2
+
+pub not-allowed : NotAllowed
+not-allowed = computed .3
+
+pub at-bounds : AtBounds
+at-bounds = computed .4
+
+pub past-bounds : PastBounds
+past-bounds = computed .5

@@ -5,13 +5,14 @@ use mathlib.Core.List.{List, [], _∷_, List·Memᴰ, List·Memᴰ·cases-cons, 
 use mathlib.Core.Logic.{_⊎_, inl, inr}
 use Prim.Native.Nat.{ℕ}
 use native.Mathlib.Omega.{arith}
-use lib.ListN.{length}
+use lib.ListN.{length, getD}
 use Rattle.laws.specs.Truth.{All}
 use Rattle.forms.specs.Lines.{isLine}
 use Rattle.protocol.specs.History.{Tel, over, handled, again}
-use Rattle.protocol.specs.Demand.{NoLostInside, Promise, UpToLast, now, all, butLast}
-use Rattle.demand3.specs.Runs.{Run, Happens, keptRuns, place, poll, approved, lateSendingHistory, lateAnswerHistory}
-use Rattle.demand3.specs.Verdicts.{Promises, NotSupposed, NotPromised, LateNotPromised, StaleNot}
+use Rattle.protocol.specs.Demand.{NoLostInside, Promise, Sub, UpToLast, now, all, butLast}
+use Rattle.demand3.specs.Runs.{Run, Happens, keptRuns, place, poll, approved}
+use Rattle.demand3.specs.Outside.{lateSendingHistory, lateAnswerHistory, deskRestartHistory, masterRestartHistory, spoiltPassesHistory, firstPlace, spoiltPlace}
+use Rattle.demand3.specs.Verdicts.{Promises, NotSupposed, NotPromised, OutsideTwice, OutsideAnswered, OutsideUnsent, StaleNot}
 use Rattle.protocol.proofs.Stepwise.{Held, of-held}
 use Rattle.demand3.proofs.Theorem.{demand3}
 use Rattle.demand3.proofs.Runs.{runs}
@@ -46,13 +47,22 @@ promises =
 
 pub not-supposed : NotSupposed
 not-supposed = (
+  (
+    λ k. k (over poll ∷ handled poll approved ∷ []) _ poll refl (inl refl) now,
+    (λ k. k (over poll ∷ handled poll approved ∷ again poll ∷ []) _ poll refl (inl refl) now, tt),
+  ),
   λ k. k (over poll ∷ handled poll approved ∷ []) _ poll refl (inl refl) now,
-  (λ k. k (over poll ∷ handled poll approved ∷ again poll ∷ []) _ poll refl (inl refl) now, tt),
 )
 
--- the ordinals do not fall
+-- the ordinals do not rise
 pub not-promised : NotPromised
-not-promised = (λ p. omega (arith, p .noneTwice .1 .0), (λ p. omega (arith, p .noneTwice .1 .0), tt))
+not-promised = ((λ p. omega (arith, p .1 .0), (λ p. omega (arith, p .1 .0), tt)), λ p. omega (arith, p .1 .0))
+
+pub outside-twice : OutsideTwice
+outside-twice = (
+  (of-held lateSendingHistory (unlost, (unlost, (unlost, tt))), λ p. omega (arith, p .1 .0)),
+  ((of-held deskRestartHistory (unlost, (unlost, tt)), λ p. omega (arith, p .1 .0)), tt),
+)
 
 -- a telegram with its answer
 abbrev Entry : Type 0
@@ -66,11 +76,18 @@ absent {z = z} {y = y} {l = l} n f m = go (List·Memᴰ·cases-cons m)
     go (inl e) = n (ap (λ (x : Entry). x .0 .0) e)
     go (inr k) = f k
 
-pub late-not-promised : LateNotPromised
-late-not-promised = (
-  (of-held lateSendingHistory (unlost, (unlost, (unlost, tt))), λ p. omega (arith, p .noneTwice .1 .0)),
-  ((of-held lateAnswerHistory (unlost, (unlost, (unlost, tt))), λ p. absent (λ q. omega (arith, q)) (absent (λ q. omega (arith, q)) List·Memᴰ·not-nil) (p .kept .0 tt)), tt),
+pub outside-answered : OutsideAnswered
+outside-answered = (
+  (of-held lateAnswerHistory (unlost, (unlost, (unlost, tt))), λ p. absent (λ q. omega (arith, q)) (absent (λ q. omega (arith, q)) List·Memᴰ·not-nil) (p .0 tt)),
+  ((of-held masterRestartHistory (unlost, (unlost, tt)), λ p. absent (λ q. omega (arith, q)) List·Memᴰ·not-nil (p .0 tt)), tt),
 )
+
+-- of lists of one entry each, the one with some entries left out has the other's
+one-left : {X : Type 0} {x y : X} → Sub (x ∷ []) (y ∷ []) → x ≡ y
+one-left (Sub.take s) = refl
+
+pub outside-unsent : OutsideUnsent
+outside-unsent = (of-held spoiltPassesHistory (unlost, tt), λ s. let q : getD (spoiltPlace .1) 6 0 ≡ getD (firstPlace .1) 6 0 = ap (λ (x : Tel (List ℕ)). getD (x .1) 6 0) (one-left s) in omega (arith, q))
 
 -- lists of one length that are equal up to the last are equal
 as-long : {X : Type 0} {k l : List X} → UpToLast k l → length k ≡ length l → k ≡ l

@@ -12,7 +12,7 @@ use Rattle.characters.specs.Marks.{lf, cr, longest}
 use Rattle.records.specs.declared.records.Record.{Record}
 use Rattle.records.specs.declared.records.Record.the-variants.{Idling, Position, RadioData, Stop, Train, TrainData}
 use Rattle.protocol.specs.History.{Tel, Hist, sent, again, noted, handled, over, answered, gaveUp}
-use Rattle.protocol.specs.Ends.{Sys, Ev, run, start, ran, happened, mdo, ddo, sys, offer, mtick, dtick, act, lost, whole, spoilt, empty}
+use Rattle.protocol.specs.Ends.{Ev, start, ran, offer, mtick, dtick, act, lost, whole, spoilt}
 use Rattle.demand3.specs.Ours.{ours, queues, sets, turns}
 use Rattle.demand3.specs.Allowed.{allowed}
 
@@ -213,42 +213,6 @@ later = record {
   history = over poll ∷ handled poll approved ∷ again poll ∷ noted ∷ over poll ∷ handled poll approved ∷ sent poll ∷ [];
 }
 
--- What the line does not allow: a thing that arrives after the master stopped waiting on it. Behind a run the desk hears this telegram,
--- or the master this answer.
-abbrev pub deskHears : Sys (ours 2) → ℕ → Tel (List ℕ) → History
-deskHears (sys m d w x h) at y = happened {E = ours 2} (ddo (ours 2 .dhear d at (y .1) room) m y h)
-
-abbrev pub masterHears : Sys (ours 2) → ℕ → List ℕ → History
-masterHears (sys m d w x h) at answer = happened {E = ours 2} (mdo (ours 2 .mhear m at answer room) d empty x h)
-
-abbrev pub nextPlace : Tel (List ℕ)
-nextPlace = (1, telegram "11F1P12340D")
-
-abbrev pub lastPlace : Tel (List ℕ)
-lastPlace = (2, telegram "11F0P43210E")
-
--- A first sending, kept back until the next telegram was handled, would be handled again, out of order.
-abbrev pub lateSending : History
-lateSending =
-    deskHears (run (start (ours 2) 0 []) (offer 0 (Idling (code "t")) room ∷ mtick 2000 room ∷ whole 2010 room ∷ whole 2020 room ∷
-    offer 2030 (Position 1234) room ∷ whole 2040 room ∷ [])) 2050 poll
-
-abbrev pub lateSendingHistory : History
-lateSendingHistory =
-    over poll ∷ handled poll approved ∷ over nextPlace ∷ handled nextPlace nextApproved ∷ sent nextPlace ∷ answered poll approved 2 ∷ over poll ∷
-    handled poll approved ∷ again poll ∷ sent poll ∷ []
-
--- An answer, kept back until the next telegram with its number was sent, would be taken for the answer to that one, which was not handled.
-abbrev pub lateAnswer : History
-lateAnswer =
-    masterHears (run (start (ours 2) 0 []) (offer 0 (Idling (code "t")) room ∷ whole 10 room ∷ mtick 2000 room ∷ whole 2010 room ∷ whole 2020 room ∷
-    offer 2030 (Position 1234) room ∷ whole 2040 room ∷ whole 2050 room ∷ offer 2060 (Position 4321) room ∷ [])) 2070 approved
-
-abbrev pub lateAnswerHistory : History
-lateAnswerHistory =
-    answered lastPlace approved 1 ∷ sent lastPlace ∷ answered nextPlace nextApproved 1 ∷ over nextPlace ∷ handled nextPlace nextApproved ∷ sent nextPlace ∷
-    answered poll approved 2 ∷ over poll ∷ again poll ∷ over poll ∷ handled poll approved ∷ sent poll ∷ []
-
 -- runs in which the supposition and the promise hold, and runs in which they fail
 abbrev pub keptRuns : List Run
 keptRuns = usual ∷ polled ∷ inOperation ∷ stopAsked ∷ throughZero ∷ stale ∷ cramped ∷ withheld ∷ []
@@ -258,8 +222,8 @@ brokenRuns = twice ∷ later ∷ []
 
 -- what happens in each
 abbrev pub Runs : Type 0
-Runs = All Happens keptRuns × All Happens brokenRuns × (lateSending ≡ lateSendingHistory) × (lateAnswer ≡ lateAnswerHistory)
+Runs = All Happens keptRuns × All Happens brokenRuns
 
--- Each is a run of the demand's line, but for `withheld` and the late ones.
+-- Each is a run of the demand's line, but for `withheld`.
 abbrev pub AllowedRuns : Type 0
 AllowedRuns = All Allowed (usual ∷ polled ∷ inOperation ∷ stopAsked ∷ throughZero ∷ stale ∷ cramped ∷ brokenRuns) × (Allowed withheld → ⊥)

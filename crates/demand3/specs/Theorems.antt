@@ -20,9 +20,11 @@ use Rattle.demand3.specs.Ours.{ours, isRefused, FromMaster, FromSlave}
 -- and any room, so refused calls too. It says more than the demand asks: a sending and an answer may arrive when T2 has run out; a
 -- sending or an answer may be replaced by the next sending with neither lost nor arrival; the times are any numbers in any order, so a
 -- clock may go back, stand still or go wrong; and a telegram answered after a giving up, but for the first, got the answer made for it.
--- `Runs` has a run against each reading near by, and `Verdicts` says what is false of it: no exception for the first answered since a giving
--- up (`stale`), a supposition that allows the note in the hearing call itself (`twice`) or looks only at the sendings made so far
--- (`later`), and a line where a sending or an answer may arrive after the master stopped waiting on it (`lateSending`, `lateAnswer`).
+-- `Runs` and `Outside` have a run against each reading near by, and `Verdicts` says what is false of it: no exception for the first answered
+-- since a giving up (`stale`), a supposition that allows the note in the hearing call itself (`twice`) or looks only at the sendings made so
+-- far (`later`), ends that restart (`deskRestart`, `masterRestart`), a line where a sending or an answer may arrive after the master stopped
+-- waiting on it (`lateSending`, `lateAnswer`), or where a spoiled sending passes the checks (`spoiltPasses`).
+-- `Live` says when the supposition holds by itself.
 abbrev pub Demand3 : Type 0
 Demand3 = (line : ℕ) → isLine line ≡ true → (at : ℕ) (events : List (Ev (ours line))) → NoLostInside (ran (ours line) at [] events) → Promise (ran (ours line) at [] events)
 

@@ -8,3 +8,4 @@ pub mod Calls
 pub mod Leaving
 pub mod Answering
 pub mod Sendings
+pub mod Order

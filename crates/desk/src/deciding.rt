@@ -96,7 +96,7 @@ fn on_refused(good: bool, last: LastTaken, refusal: Refusal, byte: u8) -> Rule
 }
 
 // The rule for a frame, by its reading and its number byte.
-pub fn decide(line: u8, good: bool, last: LastTaken, frame: &[u8]) -> Rule
+pub(crate) fn decide(line: u8, good: bool, last: LastTaken, frame: &[u8]) -> Rule
     ensures { λ r. ⌜ rulingOf r ≡ rulingIn line good (last .0) (now (frame .entry)) ⌝ }
 {
     let byte = byte_at(frame, 4);

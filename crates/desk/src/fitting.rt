@@ -10,7 +10,7 @@ use records::records::type_of;
 use values::values::permits_record;
 
 // Whether a record is of the slave's data type on a line, with permitted values.
-pub fn may_reply(line: u8, rec: Record) -> bool
+pub(crate) fn may_reply(line: u8, rec: Record) -> bool
     ensures { λ r. ⌜ r ≡ mayReply line rec ⌝ }
 {
     if type_of(rec) == data_type(line) {
@@ -21,7 +21,7 @@ pub fn may_reply(line: u8, rec: Record) -> bool
 }
 
 // Whether a key position is one of a line: A, X or Y where A carries it, else A.
-pub fn key_fits(line: u8, key: u8) -> bool
+pub(crate) fn key_fits(line: u8, key: u8) -> bool
     ensures { λ r. ⌜ r ≡ keyFits line key ⌝ }
 {
     let row = line_of(line);
@@ -29,7 +29,7 @@ pub fn key_fits(line: u8, key: u8) -> bool
 }
 
 // Whether a requested record may answer r on a line.
-pub fn wanted_fits(line: u8, wanted: Wanted) -> bool
+pub(crate) fn wanted_fits(line: u8, wanted: Wanted) -> bool
     ensures { λ r. ⌜ r ≡ wantedFits line wanted ⌝ }
 {
     match wanted {

@@ -24,7 +24,7 @@ const T1: u32 = 28_000;
 
 impl Desk {
     // Whether the line is good and T1 has run out.
-    pub fn loses(self, at: u32) -> bool
+    pub(crate) fn loses(self, at: u32) -> bool
         ensures { λ r. ⌜ r ≡ losesLine self at ⌝ }
     {
         if self.good {
@@ -35,7 +35,7 @@ impl Desk {
     }
 
     // The state with the line noted lost, where it is.
-    pub fn noted(self, lost: bool) -> Desk
+    pub(crate) fn noted(self, lost: bool) -> Desk
         ensures { λ r. ⌜ r ≡ notedOf self lost ⌝ }
     {
         let mut d = self;

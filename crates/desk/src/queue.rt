@@ -29,7 +29,7 @@ fn pop(desk: Desk) -> Desk
 }
 
 // The answer to a handled telegram.
-pub fn reply(desk: Desk, matter: Matter) -> Reply
+pub(crate) fn reply(desk: Desk, matter: Matter) -> Reply
     ensures { λ r. ⌜ (r .rec, originOf (r .source)) ≡ replyTo desk (matterOf matter) ⌝ }
 {
     let wanted = desk.requested;
@@ -50,7 +50,7 @@ fn without(desk: Desk, source: Source) -> Desk
 }
 
 // Line good, number kept as last taken, T1 restarts; the oldest record leaves the queue where it answers.
-pub fn mark(desk: Desk, source: Source, number: u8, at: u32) -> Desk
+pub(crate) fn mark(desk: Desk, source: Source, number: u8, at: u32) -> Desk
     ensures { λ r. ⌜ r ≡ restarted (marked (takenBy desk (originOf source)) number) at ⌝ }
 {
     let last = LastTaken(number);

@@ -79,7 +79,7 @@ fn polled(line: u8, key: u8, queued: usize, oldest: Record) -> Reply
 }
 
 // The answer on a line with this key position, this record set for r, and so many queued records with this oldest.
-pub fn choose(
+pub(crate) fn choose(
     line: u8,
     key: u8,
     wanted: Wanted,

@@ -27,7 +27,7 @@ pub fn kept_fits(good: bool, kept: usize) -> bool
 }
 
 // Whether each of the first n queued records may answer t on a line.
-pub fn queue_fits(line: u8, queue: [Waiting; 8], n: usize) -> bool
+pub(crate) fn queue_fits(line: u8, queue: [Waiting; 8], n: usize) -> bool
     ensures { λ r. ⌜ r ≡ every (waitingFits line) (take n queue) ⌝ }
 {
     let mut i: usize = 0;

@@ -17,7 +17,7 @@ pub struct Looked {
 }
 
 // Whether a form is on a line.
-pub fn on_line(form: Form, line: u8) -> bool
+pub(crate) fn on_line(form: Form, line: u8) -> bool
     ensures { λ r. ⌜ r ≡ onLine form line ⌝ }
 {
     let lines = form.lines;
@@ -138,7 +138,7 @@ pub fn by_master(line: u8, kind: u8) -> bool
 }
 
 // Whether the slave sends this type on this line.
-pub fn by_slave(line: u8, kind: u8) -> bool
+pub(crate) fn by_slave(line: u8, kind: u8) -> bool
     ensures { λ r. ⌜ r ≡ bySlave line kind ⌝ }
 {
     let looked = look(line, Sought::Kind(kind));

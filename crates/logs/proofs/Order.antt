@@ -1,4 +1,4 @@
--- The reader refuses by the first test that holds. Assumes nothing.
+-- The reader refuses by the first test that holds, the writer as its attempts say. Assumes nothing.
 use mathlib.Core.Path.{_≡_, refl, sym, ap, _∙_}
 use mathlib.Core.Bool.{Bool, true, false, cond}
 use mathlib.Core.List.{List, [], _∷_}
@@ -18,7 +18,8 @@ use Rattle.logs.specs.declared.marks.Mark.the-variants.{Master, Slave, H
 use Rattle.logs.specs.Marks.{markOf, mayHave}
 use Rattle.logs.specs.Records.{head}
 use Rattle.logs.specs.Reader.{knownIn, markedIn, recordIn}
-use Rattle.logs.specs.Order.{unmarked, badLength, firstOf, refusalIn, FirstThatHolds}
+use Rattle.logs.specs.Writer.{writeOf}
+use Rattle.logs.specs.Order.{unmarked, badLength, firstOf, refusalIn, FirstThatHolds, WrittenInOrder}
 
 module _ (at : ℕ) (s : List ℕ) where
   -- the tests behind the mark
@@ -97,3 +98,7 @@ unfolding recordIn
 first-that-holds at s h =
     let z : eqb (length s) 0 ≡ false = ne-eqb (length s) 0 (λ e. omega (arith, e, h)) in
     on-test (eqb (length s) 1) (λ e. rw (z, e)) (λ e. rw (z, e) (marked-order at s))
+
+pub written-in-order : WrittenInOrder
+unfolding writeOf
+written-in-order = refl

@@ -4,5 +4,5 @@ pub mod Reader
 pub mod Inside
 pub mod Whole
 pub mod Again
-pub mod Order
 pub mod Writer
+pub mod Order

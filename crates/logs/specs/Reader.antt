@@ -1,4 +1,5 @@
--- Reading a log (rules Q3 to Q5). Assumes nothing.
+-- Reading a log (rules Q3 to Q5, G3). Assumes nothing.
+use mathlib.Core.Path.{_≡_}
 use Prim.Native.Nat.{ℕ, _+_, _-_}
 use mathlib.Core.Bool.{cond}
 use mathlib.Core.List.{List, []}
@@ -23,6 +24,10 @@ abbrev pub nextOf : n.Next → Found
 nextOf (n.the-variants.Record mark time start behind) = found mark time start behind
 nextOf n.the-variants.End = end
 nextOf (n.the-variants.Refused x) = refused (refusalOf x)
+
+-- a promise through this definition allows one answer only
+abbrev pub OneNext : Type 0
+OneNext = (a b : n.Next) → nextOf a ≡ nextOf b → a ≡ b
 
 -- behind a known mark: under seven bytes is 20, a bad length 19, missing bytes 20
 unfoldable pub knownIn : Mark → ℕ → List ℕ → Found

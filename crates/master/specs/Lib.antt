@@ -4,4 +4,6 @@ pub mod Answering
 pub mod Answers
 pub mod State
 pub mod Sending
+pub mod Order
 pub mod Hearing
+pub mod Timers

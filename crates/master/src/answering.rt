@@ -53,7 +53,7 @@ fn on_reading(line: u8, sent: u8, reading: Reading) -> Verdict
 }
 
 // A frame is ignored when refused 1 to 7, or when its number is another.
-pub fn judge(line: u8, number: ToSend, sent: u8, frame: &[u8]) -> Verdict
+pub(crate) fn judge(line: u8, number: ToSend, sent: u8, frame: &[u8]) -> Verdict
     ensures { λ r. ⌜ judgedOf r ≡ judgeOf line (number .0) sent (now (frame .entry)) ⌝ }
 {
     let check = frame_check(frame);

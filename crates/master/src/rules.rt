@@ -10,7 +10,7 @@ use records::records::type_of;
 use records::records::values_of;
 
 // The poll of a line: t, or r for the slave's data type.
-pub fn poll_of(line: u8) -> Record
+pub(crate) fn poll_of(line: u8) -> Record
     ensures { λ r. ⌜ r ≡ pollOf line ⌝ }
 {
     let row = line_of(line);
@@ -46,7 +46,7 @@ pub fn is_failure(rec: Record) -> bool
 }
 
 // Whether a type is a permitted answer to a type that was sent on a line.
-pub fn permitted_answer(line: u8, sent: u8, got: u8) -> bool
+pub(crate) fn permitted_answer(line: u8, sent: u8, got: u8) -> bool
     ensures { λ r. ⌜ r ≡ permittedAnswer line sent got ⌝ }
 {
     let data = data_type(line);

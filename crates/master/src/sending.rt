@@ -72,7 +72,7 @@ impl Master {
     }
 
     // A failed sending of a state that is not free: 15, 14, then as above; while free, nothing.
-    pub fn fail(self, cause: Cause, good: bool, at: u32, out: &mut [u8]) -> Step
+    pub(crate) fn fail(self, cause: Cause, good: bool, at: u32, out: &mut [u8]) -> Step
         ensures { λ r. ⌜ (r .master, (toldOf (r .answer), now (out .exit))) ≡ failOf (groundOf cause) good self at (now (out .entry)) ⌝ }
     {
         let check = self.call_check(out.len());

@@ -114,7 +114,7 @@ impl Master {
     }
 
     // What refuses a call that may send: 15, then 14.
-    pub fn call_check(self, room: usize) -> Check
+    pub(crate) fn call_check(self, room: usize) -> Check
         ensures { λ r. ⌜ faultOf r ≡ callFault self room ⌝ }
     {
         if !self.in_ranges() {
@@ -144,7 +144,7 @@ impl Master {
     }
 
     // The line noted good or lost.
-    pub fn with_line(self, good: bool) -> Master
+    pub(crate) fn with_line(self, good: bool) -> Master
         ensures { λ r. ⌜ r ≡ withLine self good ⌝ }
     {
         let mut m = self;
@@ -163,7 +163,7 @@ impl Master {
     }
 
     // Answered: the number changes.
-    pub fn answered(self) -> Master
+    pub(crate) fn answered(self) -> Master
         ensures { λ r. ⌜ r ≡ answeredState self ⌝ }
     {
         let number = self.number;
@@ -172,7 +172,7 @@ impl Master {
     }
 
     // Answered by a permitted record: an A that answers t also tells the key position, by which T0 is; T0's start stays.
-    pub fn answered_with(self, rec: Record) -> Master
+    pub(crate) fn answered_with(self, rec: Record) -> Master
         ensures { λ r. ⌜ r ≡ answeredWith self rec ⌝ }
     {
         let sent = self.rec;
@@ -192,7 +192,7 @@ impl Master {
     }
 
     // A refused call gives the same state.
-    pub fn refused(self, refusal: Refusal) -> Step
+    pub(crate) fn refused(self, refusal: Refusal) -> Step
         ensures { λ r. ⌜ r ≡ record { master = self; answer = the-variants.Refused refusal } ⌝ }
     {
         Step {

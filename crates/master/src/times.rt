@@ -15,14 +15,14 @@ fn reduces(line: u8) -> bool
 }
 
 // Whether a line allows a flag: where T0 is never reduced, no A says Operation.
-pub fn operation_fits(line: u8, operation: bool) -> bool
+pub(crate) fn operation_fits(line: u8, operation: bool) -> bool
     ensures { λ r. ⌜ r ≡ operationFits line operation ⌝ }
 {
     if operation { reduces(line) } else { true }
 }
 
 // T0's limit on a line, by whether the last A that answered t said Operation.
-pub fn t0_of(line: u8, operation: bool) -> u32
+pub(crate) fn t0_of(line: u8, operation: bool) -> u32
     ensures { λ r. ⌜ r ≡ t0Of line operation ⌝ }
 {
     let row = line_of(line);
@@ -30,7 +30,7 @@ pub fn t0_of(line: u8, operation: bool) -> u32
 }
 
 // Whether the key is in position Operation, behind a permitted answer to a type: an A that answers t says it with X, and any other value takes it back.
-pub fn operation_after(line: u8, sent: u8, rec: Record, before: bool) -> bool
+pub(crate) fn operation_after(line: u8, sent: u8, rec: Record, before: bool) -> bool
     ensures { λ r. ⌜ r ≡ operationAfter line sent rec before ⌝ }
 {
     if sent != b't' {

@@ -5,6 +5,7 @@ pub mod Lines
 pub mod Set
 pub mod Order
 pub mod Receiver
+pub mod OneByte
 pub mod Firsts
 pub mod EachForm
 pub mod Writing

@@ -1,29 +1,35 @@
 -- A refusal of reading is the first check that finds a fault. Assumes nothing.
-use mathlib.Core.Path.{_≡_, refl, sym, ap}
+use mathlib.Core.Path.{_≡_, refl, sym, ap, _∙_}
+use mathlib.Core.Bool.{Bool, true, false, cond, not}
 use mathlib.Core.List.{List, [], _∷_}
 use Prim.Native.Nat.{ℕ, zero, suc, _+_, _-_, _<_}
 use native.Mathlib.Omega.{arith}
 use lib.ListN.{length, getD}
 use Rattle.records.specs.Refusals.{No, no}
 use Rattle.laws.specs.Numerals.{numeralOn, numberOn}
+use Rattle.laws.specs.Truth.{both, either, oneOf}
 use Rattle.laws.proofs.Truths.{clash}
+use Rattle.laws.proofs.Passes.{all-map}
 use Rattle.characters.specs.Characters.{inSet}
 use Rattle.characters.specs.Checksum.{total, checksumOf, checkText}
 use Rattle.forms.specs.Lines.{lineOf}
 use Rattle.forms.specs.Forms.{forms, onLine, lookIn, formOf, slotsIn, countOf, slotsOf, widthIn, widthOf, typeRow}
+use Rattle.forms.proofs.Found.{found-any}
 use Rattle.values.specs.Packets.{leadOf, isDecimal, permits, ruled, permitsNumber}
 use Rattle.values.specs.Values.{valueOf, permittedFrom, permitted, narrow, numberFits}
 use Rattle.records.specs.declared.records.Record.{Record}
 use Rattle.records.specs.declared.answers.Spot.{Spot}
 use Rattle.records.specs.declared.answers.Spot.the-variants.{Nowhere, At}
 use Rattle.records.specs.Answers.{Fault, good, fails, firstFault, accepted, refused, unless}
-use Rattle.reading.specs.Frame.{countText, summedOf, fieldOf, frameChecks}
-use Rattle.reading.specs.Contents.{outside, wrongLetter, badValue, misshapen, fieldChecks}
+use Rattle.reading.specs.Frame.{needs, countText, summedOf, fieldOf, frameChecks}
+use Rattle.reading.specs.Contents.{rowIn, outside, wrongLetter, badValue, misshapen, fieldChecks}
 use Rattle.reading.specs.Reading.{checks, readingOf}
 use Rattle.writing.proofs.RoundTrips.Faults.{faultless-at}
 use Rattle.writing.proofs.RoundTrips.Checks.{accepted-only}
 use Rattle.reading.proofs.Contents as contents
-use Rattle.papers.specs.Order.{EveryRefusal, EachOccurs, Eleven, RefusedFirst, AcceptedClean, NoLine}
+use Rattle.papers.specs.Lines.{Senders, paper, Exact}
+use Rattle.papers.specs.Order.{EveryRefusal, EachOccurs, Eleven, RefusedFirst, EightOn, EightListed, AcceptedClean, NoLine}
+use Rattle.papers.proofs.Lines.{exact-lines}
 
 pub every-refusal : EveryRefusal
 unfolding numeralOn inSet total checksumOf checkText forms onLine lookIn formOf typeRow slotsIn countOf slotsOf widthIn widthOf
@@ -81,6 +87,29 @@ refused-first line s k place l h =
       finds = rw e (r .finds);
       none-before = λ i a b. r .none-before (i - 1) (omega arith);
     }
+
+-- a type that is found is sent by the master or by the slave
+by-an-end : (found master : Bool) → found ≡ either (both found master) (both found (not master))
+by-an-end true true = refl
+by-an-end true false = refl
+by-an-end false master = refl
+
+needed : (b : Bool) (place : ℕ) → needs b place ≡ cond b Nowhere (At place)
+needed true place = refl
+needed false place = refl
+
+-- on a line whose types are those of the paper
+module _ (l : Senders) (x : Exact l) where
+  listed : (kind letter : ℕ) → formOf (l .line) kind letter .found ≡ either (oneOf (l .masters) kind) (oneOf (l .slaves) kind)
+  listed kind letter =
+      rw (← (x .by-master kind), ← (x .by-slave kind)) (found-any (l .line) kind letter ∙ by-an-end (typeRow (l .line) kind .found) (typeRow (l .line) kind .form .master))
+
+  eight : EightOn l
+  unfolding checks frameChecks fieldChecks
+  eight s = needed (rowIn (l .line) s .found) 3 ∙ ap (λ (b : Bool). cond b Nowhere (At 3)) (listed (getD s 3 0) (getD s 5 0))
+
+pub eight-listed : EightListed
+eight-listed = all-map Exact EightOn eight paper exact-lines
 
 pub accepted-clean : AcceptedClean
 accepted-clean line s rec n h k = faultless-at (checks line s) (k - 1) (accepted-only line s rec n h .faultless)

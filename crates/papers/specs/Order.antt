@@ -1,12 +1,12 @@
 -- A refusal of reading is the first check that finds a fault, and each of 1 to 11 occurs (rules W2, R1 to R11). Assumes nothing.
 use mathlib.Core.Path.{_≡_}
-use mathlib.Core.Bool.{true, false}
+use mathlib.Core.Bool.{true, false, cond}
 use mathlib.Core.List.{List, [], _∷_, _++_, map}
 use Prim.Native.Nat.{ℕ, _-_, _≤_, _<_}
 use Prim.Native.Char.{code}
 use lib.ListN.{length, getD, replicate}
 use Rattle.records.specs.Refusals.{no}
-use Rattle.laws.specs.Truth.{oneOf, every, All}
+use Rattle.laws.specs.Truth.{either, oneOf, every, All}
 use Rattle.laws.specs.Text.{codes}
 use Rattle.forms.specs.Lines.{isLine}
 use Rattle.records.specs.declared.records.Record.{Record}
@@ -16,6 +16,7 @@ use Rattle.records.specs.Answers.{accepted, refused}
 use Rattle.characters.specs.Marks.{lf, cr}
 use Rattle.reading.specs.Reading.{checks, readingOf}
 use Rattle.papers.specs.Cases.{framed}
+use Rattle.papers.specs.Lines.{Senders, paper}
 
 -- bytes on a line, the number of their refusal and its place
 pub record Refused : Type 0 where
@@ -90,6 +91,13 @@ pub record FirstCheck (line : ℕ) (s : List ℕ) (k place : ℕ) : Type 0 where
 -- a refusal on a line is the first check that finds a fault, with its place
 abbrev pub RefusedFirst : Type 0
 RefusedFirst = (line : ℕ) (s : List ℕ) (k place : ℕ) → isLine line ≡ true → readingOf line s ≡ refused (no k place) → FirstCheck line s k place
+
+-- check 8 finds a fault, at the type, just where the paper lists the type for neither end of the line
+abbrev pub EightOn : Senders → Type 0
+EightOn l = (s : List ℕ) → checkAt (l .line) s 8 ≡ cond (either (oneOf (l .masters) (getD s 3 0)) (oneOf (l .slaves) (getD s 3 0))) Nowhere (At 3)
+
+abbrev pub EightListed : Type 0
+EightListed = All EightOn paper
 
 -- what is accepted passes every check
 abbrev pub AcceptedClean : Type 0

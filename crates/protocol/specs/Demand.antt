@@ -54,6 +54,14 @@ module _ {T : Type 0} where
   Falling b (x ∷ l) = (x .0 < b) × Falling (x .0) l
 
 module _ {T A : Type 0} where
+  -- the telegrams handled are those sent, in the same order, with some left out
+  abbrev pub InOrder : Hist T A → Type 0
+  InOrder h = Sub (firsts (mades h)) (sents h)
+
+  -- their ordinals rise
+  abbrev pub NoneTwice : Hist T A → Type 0
+  NoneTwice h = Falling (length (sents h)) (firsts (mades h))
+
   -- each answered telegram was handled before, and got the answer made for it, unless it is the first answered since one was given up
   abbrev pub Kept : Hist T A → Type 0
   Kept [] = Unit {0}
@@ -92,9 +100,9 @@ pub record Promise {T A : Type 0} (h : Hist T A) : Type 0 where
   -- the ordinal of a telegram tells it from all others sent
   pub counted : Counted (sents h)
   -- "Then the desk handles telegrams in the order first sent, .. none that was not sent."
-  pub inOrder : Sub (firsts (mades h)) (sents h)
+  pub inOrder : InOrder h
   -- "none twice"
-  pub noneTwice : Falling (length (sents h)) (firsts (mades h))
+  pub noneTwice : NoneTwice h
   -- "A telegram the master reports answered was handled, unless it is the first answered since the master gave one up."
   pub kept : Kept h
   -- "If none was given up, each answered telegram got the answer made for it, and all handled ones are answered but perhaps the last."

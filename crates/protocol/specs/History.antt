@@ -1,4 +1,4 @@
--- What happened on a line, newest first, and what is read off it (rules J4 to J10). Assumes nothing.
+-- What happened on a line, newest first, and what is read off it (rules J4 to J16). Assumes nothing.
 use mathlib.Core.Bool.{Bool, true, false, cond}
 use mathlib.Core.List.{List, [], _∷_}
 use Prim.Native.Nat.{ℕ, suc}
@@ -93,6 +93,28 @@ module _ {T A : Type 0} where
   sendings i (over x ∷ h) = sendings i h
   sendings i (answered x a k ∷ h) = sendings i h
   sendings i (gaveUp x k ∷ h) = sendings i h
+
+  -- how many sendings were made, of all telegrams together
+  abbrev pub allSendings : Hist T A → ℕ
+  allSendings [] = 0
+  allSendings (sent x ∷ h) = suc (allSendings h)
+  allSendings (again x ∷ h) = suc (allSendings h)
+  allSendings (noted ∷ h) = allSendings h
+  allSendings (handled x a ∷ h) = allSendings h
+  allSendings (over x ∷ h) = allSendings h
+  allSendings (answered x a k ∷ h) = allSendings h
+  allSendings (gaveUp x k ∷ h) = allSendings h
+
+  -- a telegram was sent, and the newest one has not ended: it was neither answered nor given up
+  abbrev pub unended : Hist T A → Bool
+  unended [] = false
+  unended (sent x ∷ h) = true
+  unended (again x ∷ h) = true
+  unended (noted ∷ h) = unended h
+  unended (handled x a ∷ h) = unended h
+  unended (over x ∷ h) = unended h
+  unended (answered x a k ∷ h) = false
+  unended (gaveUp x k ∷ h) = false
 
 module _ {X Y : Type 0} where
   abbrev pub firsts : List (X × Y) → List X

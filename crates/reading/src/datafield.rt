@@ -58,7 +58,7 @@ pub fn wrong_form(field: &[u8], form: Form) -> Spot
 }
 
 // Check 11: the letter of the first packet whose value is not permitted.
-pub fn bad_value(line: u8, kind: u8, field: &[u8], form: Form) -> Spot
+pub(crate) fn bad_value(line: u8, kind: u8, field: &[u8], form: Form) -> Spot
     ensures { λ r. ⌜ r ≡ badValue line kind 5 (slotsOf form) (now (field .entry)) ⌝ }
 {
     let letters = form.letters;

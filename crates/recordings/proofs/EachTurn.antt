@@ -11,6 +11,7 @@ use lib.Seq.{length-take-le}
 use borrow.Author.Tests.{eqb-true, eqb-false}
 use Rattle.laws.proofs.Passes.{on-test}
 use Rattle.characters.specs.Marks.{longest}
+use Rattle.forms.specs.Lines.{isLine}
 use Rattle.records.specs.Answers.{written}
 use Rattle.text.specs.Putting.{placed}
 use Rattle.text.proofs.Puts.{put-take}
@@ -21,6 +22,8 @@ use Rattle.pieces.specs.declared.wants.Wants.{Wants}
 use Rattle.pieces.specs.declared.wants.Wants.the-variants.{Read, Again, End}
 use Rattle.pieces.proofs.Kept.{kept-front, kept-within}
 use Rattle.pieces.proofs.Runs.{Does, goes, over, last, Steps, On, whole-run, good-turns, room}
+use Rattle.conduct.specs.Desk.Calls.{Fine}
+use Rattle.conduct.proofs.Desk.Kept.{start-fine}
 use Rattle.logs.specs.Records.{head}
 use Rattle.logs.specs.Whole.{Log, logOf, waitsAt}
 use Rattle.logs.proofs.Left.{what-is-left, empty-log}
@@ -28,7 +31,7 @@ use Rattle.recordings.specs.declared.replay.part.Stop.{Stop}
 use Rattle.recordings.specs.declared.replay.part.Stop.the-variants.{Goes, Full, Waits, Over}
 use Rattle.recordings.specs.declared.replay.part.Replayed.{Replayed}
 use Rattle.recordings.specs.declared.replay.state.Replayer.{Replayer}
-use Rattle.recordings.specs.Replay.Texts.{rowRoom, cut, refusedText, textOn, textOf}
+use Rattle.recordings.specs.Replay.Texts.{rowRoom, refusedText, textOn, textOf}
 use Rattle.recordings.specs.Replay.Pieces.{Parted}
 use Rattle.recordings.specs.Replay.State.{begunOn, wantsFor}
 use Rattle.recordings.specs.Replay.Turn.{ended, lastOf, behind, carried, carriedOn, wantedOf, replaying}
@@ -40,8 +43,9 @@ use Rattle.recordings.proofs.Parts.{in-parts}
 abbrev left : Replayer → List ℕ → List ℕ
 left m s = textOf (m .desk) (m .ordinal) (wrapped (m .base)) (logOf s)
 
--- the offset is a 64-bit number; where bytes are wanted, no record stands in the bytes held, and others may follow
+-- the desk is fine and the offset a 64-bit number; where bytes are wanted, no record stands in the bytes held, and others may follow
 pub record Fits (m : Replayer) (held : List ℕ) : Type 0 where
+  pub fine : Fine (m .desk)
   pub base : wrapped (m .base) ≡ m .base
   pub idle : m .wants ≡ Read → (logOf held .0 ≡ []) × (waitsAt (logOf held .1) ≡ true)
 
@@ -73,7 +77,7 @@ module _ (m : Replayer) (buf : List ℕ) (got : ℕ) (out : List ℕ) (l : m .he
   Made t = Does replaying left Fits m hand got t
 
   -- it replays the bytes at hand
-  module _ (some : m .wants ≡ Read → got ≡ 0 → ⊥) where
+  module _ (fine : Fine (m .desk)) (some : m .wants ≡ Read → got ≡ 0 → ⊥) where
     carried-made : (p : Replayed) (x : List ℕ) → Parted (m .desk) (m .ordinal) (m .base) hand out p x
         → Made (behind m size p, (written (p .filled), (tailPut (p .next) size buf .1, x)))
     carried-made p x f = go (p .stop) refl
@@ -88,7 +92,7 @@ module _ (m : Replayer) (buf : List ℕ) (got : ℕ) (out : List ℕ) (l : m .he
             (record {
               held = kept-within (p .next) size buf n l;
               rest = λ b. rw (k, twice (m .base + p .next)) (f .on o b);
-              fits = record { base = twice (m .base + p .next); idle = λ q. rw k (f .waits (waits-only (p .stop) q)) };
+              fits = record { fine = f .fine fine; base = twice (m .base + p .next); idle = λ q. rw k (f .waits (waits-only (p .stop) q)) };
               some = some;
               going = λ q. o (over-only (p .stop) q);
               again = λ q. f .full (λ z. let y : _≡_ {A = ℕ} 0 1 = cc in omega arith) o space;
@@ -114,41 +118,41 @@ module _ (m : Replayer) (buf : List ℕ) (got : ℕ) (out : List ℕ) (l : m .he
     last-made =
         let held = length-take-le (m .held) buf (omega arith) in
         let w = what-is-left (take (m .held) buf) (f .idle q .0) (f .idle q .1) in
-        let row = cut (refusedText 20 (m .base)) in
+        let row = refusedText 20 (m .base) in
         on-test (eqb (m .held) 0)
         (λ z. rw z (ends out 0 (sym (ap (textOf (m .desk) (m .ordinal) (wrapped (m .base))) (w .none (held ∙ eqb-true (m .held) 0 z))))))
         (λ z.
         let t : take (length row) (placed row 0 out .1) ≡ row = rw (zero-add (length row)) at (put-take row out 0 (omega arith)) in
         rw z
         (ends (placed row 0 out .1) (length row)
-        (t ∙ (ap (λ (i : ℕ). cut (refusedText 20 i)) (sym (f .base)) ∙ sym (ap (textOf (m .desk) (m .ordinal) (wrapped (m .base))) (w .cut-off (omega (arith, eqb-false (m .held) 0 z))))))))
+        (t ∙ (ap (λ (i : ℕ). refusedText 20 i) (sym (f .base)) ∙ sym (ap (textOf (m .desk) (m .ordinal) (wrapped (m .base))) (w .cut-off (omega (arith, eqb-false (m .held) 0 z))))))))
 
   by-wants : Fits m (take (m .held) buf) → (v : Wants) → m .wants ≡ v → (v ≡ End → ⊥) → Made (wantedOf v m buf got out)
   by-wants f End q going = absurd (going refl)
-  by-wants f Again q going = carry (λ r e. let z : _≡_ {A = ℕ} 0 1 = cc in omega arith)
-  by-wants f Read q going = on-test (eqb got 0) (λ z. rw z (last-made f q (eqb-true got 0 z))) (λ z. rw z (carry (λ r. eqb-false got 0 z)))
+  by-wants f Again q going = carry (f .fine) (λ r e. let z : _≡_ {A = ℕ} 0 1 = cc in omega arith)
+  by-wants f Read q going = on-test (eqb got 0) (λ z. rw z (last-made f q (eqb-true got 0 z))) (λ z. rw z (carry (f .fine) (λ r. eqb-false got 0 z)))
 
 steps : Steps replaying left Fits
-steps m buf got out f going l space = (refl, by-wants m buf got out l space f (m .wants) refl going)
+steps m buf got out f going l space = (f .fine .ranged, by-wants m buf got out l space f (m .wants) refl going)
 
-begins : (line : ℕ) (buf : List ℕ) → On replaying left Fits steps (replayOn line) (begun line buf)
+begins : (line : ℕ) → isLine line ≡ true → (buf : List ℕ) → On replaying left Fits steps (replayOn line) (begun line buf)
 unfolding begunOn replayOn
-begins line buf =
+begins line known buf =
     record {
       held = omega arith;
       on = λ b. refl;
-      fits = record { base = refl; idle = λ q. (ap (λ (l : Log). l .0) empty-log, ap (λ (l : Log). waitsAt (l .1)) empty-log) };
+      fits = record { fine = start-fine line known; base = refl; idle = λ q. (ap (λ (l : Log). l .0) empty-log, ap (λ (l : Log). waitsAt (l .1)) empty-log) };
       going = λ q. let z : _≡_ {A = ℕ} 0 1 = cc in omega arith;
     }
 
 pub whole-replay : WholeReplay
-whole-replay line buf = whole-run replaying left Fits steps (replayOn line) (begun line buf) (begins line buf)
+whole-replay line known buf = whole-run replaying left Fits steps (replayOn line) (begun line buf) (begins line known buf)
 
 pub each-turn : EachTurn
-each-turn line buf = good-turns replaying left Fits steps (replayOn line) (begun line buf) (begins line buf)
+each-turn line known buf = good-turns replaying left Fits steps (replayOn line) (begun line buf) (begins line known buf)
 
 pub room-to-read : RoomToRead
-room-to-read line buf = room replaying left Fits steps (replayOn line) (begun line buf) (begins line buf) few
+room-to-read line known buf = room replaying left Fits steps (replayOn line) (begun line buf) (begins line known buf) few
   where
     few : (m : Replayer) (held : List ℕ) → Fits m held → length held ≡ m .held → m .wants ≡ Read → m .held < head + longest
     few m held f e q = omega (arith, what-is-left held (f .idle q .0) (f .idle q .1) .few)

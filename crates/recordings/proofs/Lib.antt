@@ -1,5 +1,9 @@
+pub mod Small
+pub mod Bounds
 pub mod Sent
-pub mod Cut
+pub mod Placed
+pub mod Calls
+pub mod Named
 pub mod Step
 pub mod Parts
 pub mod Turning

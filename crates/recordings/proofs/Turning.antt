@@ -1,13 +1,12 @@
 -- A turn of a replay, in the order of its tests. Assumes nothing.
 use mathlib.Core.Path.{_≡_, sym, ap, _∙_}
 use mathlib.Core.List.{List}
-use Prim.Native.Nat.{ℕ, _+_, _-_, _≤_}
+use Prim.Native.Nat.{ℕ, _+_, _-_, _≤_, _<_}
 use native.Mathlib.Omega.{arith}
-use native.Mathlib.Nat.{zero-add}
-use lib.ListN.{length, take, getD, length-take}
-use borrow.Rule.Slice.PartMut.{midOf, putMid}
-use borrow.Author.Tests.{eq-eqb, ne-eqb}
-use Rattle.records.specs.Answers.{good, Outcome, written}
+use lib.ListN.{length, take, getD}
+use borrow.Author.Tests.{lt-ltb, le-ltb, eq-eqb, ne-eqb}
+use Rattle.records.specs.Answers.{good, Outcome, written, refused}
+use Rattle.records.specs.Refusals.{no}
 use Rattle.text.specs.Putting.{puts, placed}
 use Rattle.pieces.specs.Counts.{wrapped}
 use Rattle.pieces.specs.Tails.{tailPut}
@@ -17,9 +16,9 @@ use Rattle.pieces.proofs.Runs as runs
 use Rattle.pieces.specs.declared.wants.Wants.{Wants}
 use Rattle.pieces.specs.declared.wants.Wants.the-variants.{Read, End}
 use Rattle.recordings.specs.declared.replay.part.Replayed.{Replayed}
-use Rattle.recordings.specs.Replay.Texts.{rowRoom, cut, refusedText}
+use Rattle.recordings.specs.Replay.Texts.{rowRoom, refusedText}
 use Rattle.recordings.specs.Replay.Part.{partOf}
-use Rattle.recordings.proofs.Cut.{puts-cut, at-part, part-length}
+use Rattle.recordings.proofs.Placed.{put-whole}
 use Rattle.recordings.specs.declared.replay.state.Replayer.{Replayer}
 use Rattle.recordings.specs.Replay.State.{begunOn, turnFault, wantsFor}
 use Rattle.recordings.specs.Replay.Turn.{ended, openedOn, openedOf, lastOf, carried, carriedOn, wantedOf, replaying, turnOf}
@@ -29,20 +28,12 @@ module _ (m : Replayer) (out : List ℕ) where
   unfolding lastOf
   none-held l h e = rw (e, eq-eqb (m .held) 0 h)
 
-  pub some-held : (l : Replayer) (k n : ℕ) (x : List ℕ) → (m .held ≡ 0 → ⊥) → rowRoom ≤ length out → k ≡ rowRoom → l ≡ ended m → (n, x) ≡ puts (refusedText 20 (m .base)) 0 (midOf 0 k out)
-      → (l, (written n, putMid 0 k out x)) ≡ lastOf m out
-  unfolding lastOf placed
-  some-held l k n x h room is e p =
-      let t = refusedText 20 (m .base) in
-      let g : length (midOf 0 k out) ≡ rowRoom = part-length out 0 k (omega (arith, is, room)) ∙ is in
-      let q : (n, x) ≡ placed (cut (refusedText 20 (m .base))) 0 (midOf 0 k out) =
-      p ∙ (puts-cut (refusedText 20 (m .base)) (midOf 0 k out) ∙ ap (λ (i : ℕ). placed (take i (refusedText 20 (m .base))) 0 (midOf 0 k out)) g) in
-      let a : n ≡ length (cut (refusedText 20 (m .base))) = ap (λ (y : ℕ × List ℕ). y .0) q ∙ zero-add (length (cut (refusedText 20 (m .base)))) in
-      let b : putMid 0 k out x ≡ placed (cut (refusedText 20 (m .base))) 0 out .1 =
-      ap (λ (y : ℕ × List ℕ). putMid 0 k out (y .1)) q
-      ∙ at-part (cut (refusedText 20 (m .base))) out 0 k (omega (arith, is, length-take rowRoom (refusedText 20 (m .base)))) (omega (arith, is, room)) in
-      rw (e, ne-eqb (m .held) 0 h, a)
-      (ap {B = Replayer × (Outcome × List ℕ)} (λ (y : List ℕ). (ended m, (written (length (cut (refusedText 20 (m .base)))), y))) b)
+  pub some-held : (l : Replayer) (n : ℕ) (x : List ℕ) → (m .held ≡ 0 → ⊥) → rowRoom ≤ length out → length (refusedText 20 (m .base)) ≤ rowRoom → l ≡ ended m
+      → (n, x) ≡ puts (refusedText 20 (m .base)) 0 out → (l, (written n, x)) ≡ lastOf m out
+  unfolding lastOf
+  some-held l n x h room fits e p =
+      let w = put-whole (refusedText 20 (m .base)) out n x (omega arith) p in
+      rw (e, ne-eqb (m .held) 0 h, w .0, w .1)
 
 -- a part of n bytes, and what is kept of them
 pub kept : (m : Replayer) (buf : List ℕ) (n : ℕ) (out s : List ℕ) (p : Replayed) (x : List ℕ) (wants : Wants) (base held k : ℕ) (b : List ℕ)
@@ -55,7 +46,7 @@ kept m buf n out s p x wants base held k b e h t w o l =
     rw (← e, ← h, w, o, l, q)
 
 module _ (m : Replayer) (buf : List ℕ) (got : ℕ) (out : List ℕ) where
-  pub wanted : (w : Wants) (t : Turned Replayer) → good ≡ turnFault (m .held) (length buf) got (length out) → m .wants ≡ w → t ≡ wantedOf w m buf got out → t ≡ turnOf m buf got out
+  pub wanted : (w : Wants) (t : Turned Replayer) → good ≡ turnFault m (length buf) got (length out) → m .wants ≡ w → t ≡ wantedOf w m buf got out → t ≡ turnOf m buf got out
   wanted w t f g e = runs.wanted replaying m buf got out t f (e ∙ ap (λ (v : Wants). wantedOf v m buf got out) (sym g))
 
   -- where bytes were read, and where none were
@@ -69,25 +60,30 @@ module _ (m : Replayer) (buf : List ℕ) (got : ℕ) (out : List ℕ) where
   pub none-wanted : (l : Replayer) → l ≡ ended m → (l, (written 0, (buf, out))) ≡ wantedOf End m buf got out
   none-wanted l e = rw e
 
--- the input's first byte names a line, or none
-module _ (first out : List ℕ) (byte line : ℕ) (b : byte ≡ getD first 0 0) (e : line ≡ lineNamed byte) where
-  same-line : openedOn line out ≡ openedOf first out
-  same-line = ap (λ (i : ℕ). openedOn i out) (e ∙ ap lineNamed b)
-
-  pub unnamed-open : (m l : Replayer) (text : List ℕ) (n : ℕ) (x : List ℕ) → line ≡ 0 → text ≡ badLine → (n, x) ≡ puts text 0 out → m ≡ begunOn line → l ≡ ended m
-      → (l, (written n, x)) ≡ openedOf first out
+-- the input's first byte: there is no room for a row; or it names no line; or it names one
+module _ (first out : List ℕ) where
+  pub unroomed-open : (m : Replayer) → length out < rowRoom → m ≡ begunOn 0 → (m, (refused (no 14 0), out)) ≡ openedOf first out
   unfolding openedOn
-  unnamed-open m l text n x z t p q f = go ∙ same-line
-    where
-      put : (n, x) ≡ puts badLine 0 out
-      put = p ∙ ap (λ (u : List ℕ). puts u 0 out) t
+  unroomed-open m h q = rw (lt-ltb (length out) rowRoom h, q)
 
-      go : (l, (written n, x)) ≡ openedOn line out
-      go = rw (eq-eqb line 0 z, f, q) (ap {B = Replayer × (Outcome × List ℕ)} (λ (y : ℕ × List ℕ). (ended (begunOn line), (written (y .0), y .1))) put)
+  module _ (byte line : ℕ) (b : byte ≡ getD first 0 0) (e : line ≡ lineNamed byte) (room : rowRoom ≤ length out) where
+    same-line : openedOn line out ≡ openedOf first out
+    same-line = ap (λ (i : ℕ). openedOn i out) (e ∙ ap lineNamed b)
 
-  pub named-open : (m : Replayer) → (line ≡ 0 → ⊥) → m ≡ begunOn line → (m, (written 0, out)) ≡ openedOf first out
-  unfolding openedOn
-  named-open m z q = go ∙ same-line
-    where
-      go : (m, (written 0, out)) ≡ openedOn line out
-      go = rw (ne-eqb line 0 z, q)
+    pub unnamed-open : (m l : Replayer) (text : List ℕ) (n : ℕ) (x : List ℕ) → line ≡ 0 → text ≡ badLine → (n, x) ≡ puts text 0 out → m ≡ begunOn line → l ≡ ended m
+        → (l, (written n, x)) ≡ openedOf first out
+    unfolding openedOn
+    unnamed-open m l text n x z t p q f = go ∙ same-line
+      where
+        put : (n ≡ length badLine) × (x ≡ placed badLine 0 out .1)
+        put = put-whole badLine out n x (omega (arith, room)) (p ∙ ap (λ (u : List ℕ). puts u 0 out) t)
+
+        go : (l, (written n, x)) ≡ openedOn line out
+        go = rw (le-ltb (length out) rowRoom room, eq-eqb line 0 z, f, q, put .0, put .1)
+
+    pub named-open : (m : Replayer) → (line ≡ 0 → ⊥) → m ≡ begunOn line → (m, (written 0, out)) ≡ openedOf first out
+    unfolding openedOn
+    named-open m z q = go ∙ same-line
+      where
+        go : (m, (written 0, out)) ≡ openedOn line out
+        go = rw (le-ltb (length out) rowRoom room, ne-eqb line 0 z, q)

@@ -1,3 +1,4 @@
 pub mod Meant
 pub mod Filled
 pub mod Queue
+pub mod Digits

@@ -7,6 +7,7 @@ use lib.Dec.{eqb}
 use lib.ListN.{length, getD}
 use Rattle.laws.specs.Text.{codes}
 use Rattle.text.specs.Fields.{wordOf, wordPlace}
+use Rattle.scripts.specs.Numbers.{areNumbers}
 use Rattle.scripts.specs.declared.kinds.Kind.{Kind}
 use Rattle.scripts.specs.declared.kinds.Kind.the-variants.{Desk, Master, Elapsed, Comment, Unknown}
 
@@ -14,9 +15,13 @@ use Rattle.scripts.specs.declared.kinds.Kind.the-variants.{Desk, Master,
 unfoldable pub unnamedOf : List ℕ → Kind
 unnamedOf row = cond (eqb (length row) 0) Comment (cond (eqb (getD row 0 0) (code "#")) Comment Unknown)
 
+-- elapsed time takes two numbers
+unfoldable pub elapsedRow : List ℕ → Kind
+elapsedRow row = cond (areNumbers 1 3 row) Elapsed Unknown
+
 -- by the number of the first word among those that name a row
 unfoldable pub kindNumbered : ℕ → List ℕ → Kind
-kindNumbered n row = cond (eqb n 0) Desk (cond (eqb n 1) Master (cond (eqb n 2) Elapsed (unnamedOf row)))
+kindNumbered n row = cond (eqb n 0) Desk (cond (eqb n 1) Master (cond (eqb n 2) (elapsedRow row) (unnamedOf row)))
 
 unfoldable pub kindOf : List ℕ → Kind
 kindOf row = kindNumbered (wordPlace (codes "desk master elapsed") 3 (wordOf 0 row)) row

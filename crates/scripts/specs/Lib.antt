@@ -1,5 +1,6 @@
 pub mod Kinds
 pub mod Meanings
+pub mod Numbers
 pub mod Printing
 pub mod Tellings
 pub mod Desks

@@ -1,7 +1,8 @@
 // What a row is of.
 ghost use mathlib.Core.Path.{_≡_};
-ghost use Rattle.scripts.specs.Kinds.{unnamedOf, kindNumbered, kindOf};
+ghost use Rattle.scripts.specs.Kinds.{unnamedOf, elapsedRow, kindNumbered, kindOf};
 use crate::meanings::named;
+use crate::numbers::are_numbers;
 
 // A row of the desk, of the master or of elapsed time; else a comment, or unknown.
 pub enum Kind {
@@ -25,6 +26,17 @@ fn unnamed(row: &[u8]) -> Kind
     Kind::Unknown
 }
 
+// Elapsed time takes two numbers.
+fn elapsed(row: &[u8]) -> Kind
+    ensures { λ r. ⌜ r ≡ elapsedRow (now (row .entry)) ⌝ }
+{
+    if are_numbers(row, 1, 3) {
+        Kind::Elapsed
+    } else {
+        Kind::Unknown
+    }
+}
+
 // By the number of the first word among those that name a row.
 fn kind_numbered(n: usize, row: &[u8]) -> Kind
     ensures { λ r. ⌜ r ≡ kindNumbered n (now (row .entry)) ⌝ }
@@ -32,7 +44,7 @@ fn kind_numbered(n: usize, row: &[u8]) -> Kind
     match n {
         0 => Kind::Desk,
         1 => Kind::Master,
-        2 => Kind::Elapsed,
+        2 => elapsed(row),
         _ => unnamed(row),
     }
 }

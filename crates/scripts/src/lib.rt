@@ -3,5 +3,6 @@ pub mod desks;
 pub mod kinds;
 pub mod masters;
 pub mod meanings;
+mod numbers;
 pub mod printing;
 pub mod tellings;

@@ -28,14 +28,14 @@ pub fn is_decimal(letter: u8) -> bool
 }
 
 // Whether there is a rule for the number of a packet's value.
-pub fn is_ruled(line: u8, letter: u8) -> bool
+pub(crate) fn is_ruled(line: u8, letter: u8) -> bool
     ensures { λ r. ⌜ r ≡ ruled line letter ⌝ }
 {
     letter == b'R'
 }
 
 // Whether the number of a packet's value is permitted.
-pub fn permits_number(line: u8, letter: u8, n: u32) -> bool
+pub(crate) fn permits_number(line: u8, letter: u8, n: u32) -> bool
     ensures { λ r. ⌜ r ≡ permitsNumber line letter n ⌝ }
 {
     match letter {

@@ -17,7 +17,7 @@ fn is_digit(b: u8) -> bool
 
 // Whether the byte at a place of a value is permitted: by line, telegram type and packet letter.
 // Letters that follow each other in the alphabet, as C and D, stand in different arms, since one arm would test them as a range.
-pub fn permits_byte(line: u8, kind: u8, letter: u8, at: usize, b: u8) -> bool
+pub(crate) fn permits_byte(line: u8, kind: u8, letter: u8, at: usize, b: u8) -> bool
     ensures { λ r. ⌜ r ≡ permits line kind letter at b ⌝ }
 {
     match letter {

@@ -165,7 +165,7 @@ fn permits_spelt(line: u8, kind: u8, letter: u8, w: usize, n: u32) -> bool
 }
 
 // Whether a number is permitted as a packet's value of so many characters.
-pub fn permits_value(line: u8, kind: u8, letter: u8, len: u8, n: u32) -> bool
+pub(crate) fn permits_value(line: u8, kind: u8, letter: u8, len: u8, n: u32) -> bool
     ensures { λ r. ⌜ r ≡ permitsValue line kind letter len n ⌝ }
 {
     let w = len as usize;
@@ -209,7 +209,7 @@ pub fn permits_values(line: u8, kind: u8, form: Form, values: [u32; 10]) -> bool
 }
 
 // The length of a record's telegram, 0 where its type is not on the line.
-pub fn length_of(line: u8, rec: Record) -> usize
+pub(crate) fn length_of(line: u8, rec: Record) -> usize
     ensures { λ r. ⌜ r ≡ lengthOf line rec ⌝ }
 {
     let looked = form_of(line, type_of(rec), letter_of(rec));

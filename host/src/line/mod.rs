@@ -5,6 +5,7 @@ pub mod demand;
 pub mod demo;
 pub mod ends;
 pub mod faced;
+pub mod live;
 pub mod log;
 pub mod odds;
 pub mod runs;

@@ -12,7 +12,7 @@ use crate::second::script::Bench;
 use crate::second::words::{in_row, shown};
 
 /// Rows that name no call: comments, and mistyped ones.
-const UNNAMED: [&str; 8] = [
+const UNNAMED: [&str; 24] = [
     "# nothing",
     "",
     "desk tikc 5",
@@ -21,6 +21,22 @@ const UNNAMED: [&str; 8] = [
     "master queue 5",
     "master alter last 1",
     "bench tick 5",
+    "desk start 3a",
+    "desk tick 1x",
+    "desk tick -5",
+    "desk hear 1,5 66 <08A0AAA5>",
+    "desk hear 15 6/ <08A0AAA5>",
+    "desk queue B 125 90 1:0 88",
+    "desk set K 1 2 3 65 +16706 1234",
+    "desk alter queued 1e0",
+    "master start 1 0x10",
+    "master start l 0",
+    "master tick 5 6_6",
+    "master tick 5. 66",
+    "master offer 5 66 t 1l6",
+    "master hear 5 66- <08A0AAA5>",
+    "master alter count O",
+    "elapsed 1 +2",
 ];
 
 /// A script in the making, and the bench that has run it so far.

@@ -1,8 +1,10 @@
 //! The replay of a whole log as text, over the second desk: docs/REPLAY.md, from request 1 alone.
 
-use crate::second::desk::{Desk, ROOM};
+use crate::second::desk::{Desk, Hearing, Refusal, ROOM};
 use crate::second::logs::{entries, Entry, Mark};
-use crate::second::words::{hearing, ticked};
+use crate::second::reading::read;
+use crate::second::records::Record;
+use crate::second::words::{hearing_of, ticked};
 
 /// What the program `replay` prints for an input.
 pub fn replay(input: &[u8]) -> String {
@@ -41,6 +43,15 @@ fn acted(desk: &mut Desk, entry: &Entry) -> Option<String> {
     match entry.mark {
         Mark::Slave => None,
         Mark::Hit => Some(ticked(desk.tick(entry.time))),
-        Mark::Master => Some(hearing(desk.hear(entry.time, ROOM, entry.bytes))),
+        Mark::Master => {
+            let answer = desk.hear(entry.time, ROOM, entry.bytes);
+            Some(told(desk.line, entry.bytes, answer))
+        }
     }
+}
+
+/// What a row says of a hearing: a handled telegram is named, where it was read.
+pub fn told(line: u8, frame: &[u8], answer: Result<Hearing, Refusal>) -> String {
+    let read = read(line, frame).map(|reading| Record::read(line, &reading));
+    hearing_of(answer, read.ok().as_ref())
 }

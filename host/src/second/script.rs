@@ -33,9 +33,24 @@ impl Row<'_> {
         self.rest(index).split(' ').next().unwrap_or("")
     }
 
-    /// A word as a number, 0 where it is none.
+    /// A word as a number modulo 2^32, 0 where it is missing.
     pub fn number(&self, index: usize) -> u32 {
-        self.word(index).parse().unwrap_or(0)
+        decimal(self.word(index))
+    }
+
+    /// Whether the words that a row's call takes as numbers have nothing but digits.
+    fn well_numbered(&self) -> bool {
+        let numbers: Vec<usize> = match (self.word(0), self.word(1)) {
+            ("desk", "start" | "tick") => vec![2],
+            ("desk", "hear") | ("master", "start" | "tick" | "hear") => vec![2, 3],
+            ("desk", "queue" | "set") => (3..13).collect(),
+            ("master", "offer") => [2, 3].into_iter().chain(5..15).collect(),
+            ("desk" | "master", "alter") => vec![3],
+            ("elapsed", _) => vec![1, 2],
+            _ => Vec::new(),
+        };
+        let digits = |index| self.word(index).bytes().all(|byte| byte.is_ascii_digit());
+        numbers.into_iter().all(digits)
     }
 
     fn small(&self, index: usize) -> u8 {
@@ -49,7 +64,7 @@ impl Row<'_> {
             .next()
             .and_then(|word| word.bytes().next())
             .unwrap_or(0);
-        let values = words.map(|word| word.parse().unwrap_or(0)).collect();
+        let values = words.map(decimal).collect();
         Record { type_byte, values }
     }
 }
@@ -171,10 +186,11 @@ impl Bench {
     }
 
     /// Says a row again, makes its call and says what came. A comment and an empty row are only
-    /// said; any other row that names no call is said to be none.
+    /// said; any other row that names no call, or has a number that is none, is said to be none.
     pub fn row(&mut self, text: &str) -> String {
         let row = Row { text };
         let came = match row.word(0) {
+            _ if !row.well_numbered() => none(),
             "desk" => self.on_desk(&row),
             "master" => self.on_master(&row),
             "elapsed" => format!("  {}\n", elapsed(row.number(1), row.number(2))),
@@ -183,6 +199,12 @@ impl Bench {
         };
         format!("{text}\n{came}")
     }
+}
+
+/// The number that digits say, modulo 2^32.
+fn decimal(word: &str) -> u32 {
+    let behind = |n: u32, byte: u8| n.wrapping_mul(10).wrapping_add((byte - b'0').into());
+    word.bytes().filter(u8::is_ascii_digit).fold(0, behind)
 }
 
 /// What is said of a row that names no call.

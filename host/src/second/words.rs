@@ -28,6 +28,7 @@ pub fn meant(text: &str) -> Vec<u8> {
     while let Some(byte) = rest.next() {
         let mut digit = || {
             rest.next()
+                .filter(|digit| !digit.is_ascii_lowercase())
                 .and_then(|digit| char::from(digit).to_digit(16))
                 .unwrap_or(0)
         };
@@ -88,24 +89,35 @@ pub fn source(source: &Source) -> String {
     }
 }
 
-fn heard(heard: &Heard) -> String {
-    match heard {
-        Heard::Silent(refusal, place) => format!("silent, no {refusal} {place}"),
-        Heard::Fault => "fault".into(),
-        Heard::Repeat => "repeat".into(),
-        Heard::Handled(from) => format!("handled, {}", source(from)),
+/// What came of a frame, with the record that it was where that is to be named and the source does not.
+fn heard(heard: &Heard, named: Option<&Record>) -> String {
+    match (heard, named) {
+        (Heard::Silent(refusal, place), _) => format!("silent, no {refusal} {place}"),
+        (Heard::Fault, _) => "fault".into(),
+        (Heard::Repeat, _) => "repeat".into(),
+        (Heard::Handled(from @ Source::Panel(_)), _) | (Heard::Handled(from), None) => {
+            format!("handled, {}", source(from))
+        }
+        (Heard::Handled(from), Some(record)) => {
+            format!("handled, {}, {}", shown(record), source(from))
+        }
     }
 }
 
-/// What a desk's hearing answers.
-pub fn hearing(answer: Result<Hearing, Refusal>) -> String {
+/// What a desk's hearing answers, with the record that it handled where one is given.
+pub fn hearing_of(answer: Result<Hearing, Refusal>, named: Option<&Record>) -> String {
     match answer {
         Ok((lost, came, bytes)) => {
             let noted = if lost { "line noted lost, " } else { "" };
-            format!("{noted}{}{}", heard(&came), output(&bytes))
+            format!("{noted}{}{}", heard(&came, named), output(&bytes))
         }
         Err(refusal) => done(Err(refusal)),
     }
+}
+
+/// What a desk's hearing answers, as `scenes` says it.
+pub fn hearing(answer: Result<Hearing, Refusal>) -> String {
+    hearing_of(answer, None)
 }
 
 /// What a desk's tick answers.

@@ -123,6 +123,19 @@ pub struct Promise {
     /// The names of its first cell that no function has.
     pub unknown: Vec<String>,
     pub functions: Vec<String>,
+    /// Its fourth cell: what is refused.
+    pub refusals: String,
+}
+
+/// The functions that the page lists as parts: `crate module::name` in the first cell of a row below
+/// the heading 'Parts'.
+pub fn parts(page: &str) -> Vec<String> {
+    let behind = |line: &&str| !line.starts_with("## Parts");
+    let rows = page.lines().skip_while(behind).skip(1);
+    let rows = rows.take_while(|line| !line.starts_with("## "));
+    let rows = rows.filter(|line| line.starts_with("| `"));
+    rows.flat_map(|line| names(cells(line).first().unwrap_or(&"")))
+        .collect()
 }
 
 /// The functions of a crate that a name of the page means: `module::name`, or `Type::name`.
@@ -154,6 +167,7 @@ pub fn promises(page: &str, tree: &Tree) -> Vec<Promise> {
             line: i + 1,
             unknown: Vec::new(),
             functions: Vec::new(),
+            refusals: cells(line).get(3).unwrap_or(&"").to_string(),
         };
         for name in names(cells(line).first().unwrap_or(&"")) {
             let name = if name.contains("::") {

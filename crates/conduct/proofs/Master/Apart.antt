@@ -3,13 +3,16 @@ use mathlib.Core.Path.{_≡_, refl, sym, ap, _∙_}
 use Rattle.records.specs.Answers.{Answer, accepted, answerOf}
 use Rattle.records.specs.Answers as w
 use Rattle.records.specs.declared.answers.Reading as g
+use Rattle.master.specs.Answering.{Judged, failed, judgedOf}
+use Rattle.master.specs.Answering as j
+use Rattle.master.specs.declared.answering.Verdict as v
 use Rattle.master.specs.Answers.{Which, offered, again, poll, whichOf, Ground, silence, rejected, groundOf, Why, free, runOut, otherNumber, whyOf, Told, nothing, sent, answered, otherKind, givenUp, ignored, toldOf}
 use Rattle.master.specs.declared.answers.Sending as s
 use Rattle.master.specs.declared.answers.Cause as c
 use Rattle.master.specs.declared.answers.Reason as r
 use Rattle.master.specs.declared.answers.Answer as a
 use Rattle.master.specs.Answers as t
-use Rattle.conduct.specs.Master.Apart.{OneAnswer}
+use Rattle.conduct.specs.Master.Apart.{OneVerdict, OneAnswer}
 use Rattle.records.proofs.Apart.{backOf, refusal-back}
 
 -- the answer of what is told: of a reading
@@ -20,6 +23,21 @@ readingBack (w.refused x) = g.the-variants.Refused (backOf x)
 reading-back : (x : g.Reading) → readingBack (answerOf x) ≡ x
 reading-back (g.the-variants.Accepted rec number) = refl
 reading-back (g.the-variants.Refused x) = ap g.the-variants.Refused (refusal-back x)
+
+-- of what a heard frame is
+abbrev verdictBack : Judged → v.Verdict
+verdictBack (j.refused x) = v.the-variants.Refused (backOf x)
+verdictBack j.otherNumber = v.the-variants.OtherNumber
+verdictBack failed = v.the-variants.Failed
+verdictBack (j.answered rec) = v.the-variants.Answered rec
+verdictBack (j.otherKind answer) = v.the-variants.OtherKind (readingBack answer)
+
+verdict-back : (x : v.Verdict) → verdictBack (judgedOf x) ≡ x
+verdict-back (v.the-variants.Refused x) = ap v.the-variants.Refused (refusal-back x)
+verdict-back v.the-variants.OtherNumber = refl
+verdict-back v.the-variants.Failed = refl
+verdict-back (v.the-variants.Answered rec) = refl
+verdict-back (v.the-variants.OtherKind reading) = ap v.the-variants.OtherKind (reading-back reading)
 
 -- of a sending
 abbrev sendingBack : Which → s.Sending
@@ -72,6 +90,9 @@ answer-back (a.the-variants.Answered rec count) = refl
 answer-back (a.the-variants.OtherKind reading count) = rw (reading-back reading)
 answer-back (a.the-variants.GivenUp cause count) = rw (cause-back cause)
 answer-back (a.the-variants.Ignored why) = rw (reason-back why)
+
+pub one-verdict : OneVerdict
+one-verdict x y e = sym (verdict-back x) ∙ ap verdictBack e ∙ verdict-back y
 
 pub one-answer : OneAnswer
 one-answer x y e = sym (answer-back x) ∙ ap answerBack e ∙ answer-back y

@@ -1,4 +1,4 @@
--- T0 behind any calls, told by the calls and their answers alone (rules K4, M3, M18). Assumes nothing.
+-- T0 and T2 behind any calls, told by the calls and their answers alone (rules K4, M3, M18). Assumes nothing.
 use mathlib.Core.Path.{_≡_, refl, sym, ap, _∙_}
 use mathlib.Core.Bool.{Bool, true, false, cond}
 use mathlib.Core.List.{List, [], _∷_, _++_}
@@ -18,8 +18,10 @@ use Rattle.master.specs.declared.state.Master.{Master}
 use Rattle.master.specs.Answers.{Which, Told}
 use Rattle.master.specs.State.{isFree, inRanges, started}
 use Rattle.master.specs.Sending.{Behind, t0Limit, sendingOf}
-use Rattle.conduct.specs.Master.Calls.{Call, after, run, FirstSending, offered, polled}
-use Rattle.conduct.specs.Master.PollTimes.{eventsOf, lastIn, firstType, typeBy, sentType, positionIn, positions, lastPosition, sendingAt, sendingTimes, TimeRow, paperTimes, LimitTold, OneLimit, RunsFromSending}
+use Rattle.master.specs.Timers.{Timed}
+use Rattle.master.proofs.Timers.{offer-timed, tick-timed, hear-timed}
+use Rattle.conduct.specs.Master.Calls.{Call, offers, ticks, hears, callTime, after, run, FirstSending, offered, polled}
+use Rattle.conduct.specs.Master.PollTimes.{eventsOf, lastIn, firstType, typeBy, sentType, positionIn, positions, lastPosition, startAfter, TimeRow, paperTimes, LimitTold, OneLimit, RunsFromSending}
 use Rattle.conduct.proofs.Master.Calls.{Quiet, barred, idle, unheard, Ends, permitted, strange, Does, stays, begins, repeats, ends, givesUp, does}
 use Rattle.conduct.proofs.Master.Kept.{keeps, start-ranged}
 
@@ -142,26 +144,15 @@ either-way false n = refl
 pub one-limit : OneLimit
 one-limit at calls = (limit-told .0 at calls ∙ either-way (eqb (lastPosition 1 at calls) (code "X")) 20000, limit-told .1 .0 at calls ∙ either-way (eqb (lastPosition 2 at calls) (code "X")) 5000)
 
--- T0's start is the time of the last sending
-module _ (m : Master) (call : Call) where
-  started-at : (turn : Behind) → Does m call turn → turn .0 .t0 ≡ lastIn (m .t0) (sendingAt call (turn .1 .0))
-  unfolding sendingOf
-  started-at turn (stays told (barred x)) = refl
-  started-at turn (stays told idle) = refl
-  started-at turn (stays told unheard) = refl
-  started-at turn (begins which rec f free s r) = refl
-  started-at turn (repeats g f x r) = refl
-  started-at turn (ends told o permitted f b) = refl
-  started-at turn (ends told o strange f b) = refl
-  started-at turn (givesUp ground f c) = refl
-
-runs-on : (m : Master) → inRanges m ≡ true → (calls : List Call) → run m calls .t0 ≡ lastIn (m .t0) (sendingTimes (eventsOf m calls))
-runs-on m h [] = refl
-runs-on m h (call ∷ calls) =
-    let told = after m call .1 .0 in
-    runs-on (after m call .0) (keeps m h call) calls
-    ∙ ap (λ (n : ℕ). lastIn n (sendingTimes (eventsOf (after m call .0) calls))) (started-at m call (after m call) (does m h call))
-    ∙ sym (last-of-two (m .t0) (sendingAt call told) (sendingTimes (eventsOf (after m call .0) calls)))
+-- each call starts both timers, or lets both run on
+timed : (m : Master) (call : Call) → Timed m (callTime call) (after m call)
+timed m (offers at rec out) = offer-timed m at rec out
+timed m (ticks at out) = tick-timed m at out
+timed m (hears at frame out) = hear-timed m at frame out
 
 pub runs-from-sending : RunsFromSending
-runs-from-sending line at h calls = runs-on (started line at) (start-ranged line at h) calls
+runs-from-sending m [] = (refl, refl)
+runs-from-sending m (call ∷ calls) =
+    let r = runs-from-sending (after m call .0) calls in
+    let later : ℕ → ℕ = λ n. startAfter n (eventsOf (after m call .0) calls) in
+    (r .0 ∙ ap later (timed m call .t0), r .1 ∙ ap later (timed m call .t2))

@@ -1,13 +1,12 @@
--- T0 behind any calls, told by the calls and their answers alone, without the state (rules K4, M3, M18). Assumes nothing.
+-- T0 and T2 behind any calls, told by the calls and their answers alone, without the state (rules K4, M3, M18). Assumes nothing.
 use mathlib.Core.Path.{_≡_}
-use mathlib.Core.Bool.{true, cond}
+use mathlib.Core.Bool.{cond}
 use mathlib.Core.List.{List, [], _∷_, _++_}
 use Prim.Native.Nat.{ℕ}
 use Prim.Native.Char.{code}
 use lib.Dec.{eqb}
 use lib.ListN.{getD}
 use Rattle.laws.specs.Truth.{both, All}
-use Rattle.forms.specs.Lines.{isLine}
 use Rattle.records.specs.Records.{typeOf, valuesOf}
 use Rattle.master.specs.Rules.{pollOf}
 use Rattle.master.specs.declared.state.Master.{Master}
@@ -15,6 +14,7 @@ use Rattle.master.specs.Answers.{Which, offered, again, poll, Told, nothing, se
 use Rattle.master.specs.Answers as t
 use Rattle.master.specs.State.{started}
 use Rattle.master.specs.Sending.{t0Limit}
+use Rattle.master.specs.Timers.{startBehind}
 use Rattle.conduct.specs.Master.Calls.{Call, offers, ticks, hears, callTime, after, run}
 
 -- a call, and what it answered
@@ -95,20 +95,11 @@ LimitTold =
 abbrev pub OneLimit : Type 0
 OneLimit = (at : ℕ) (calls : List Call) → (t0Limit (run (started 1 at) calls) ≡ 20000) × (t0Limit (run (started 2 at) calls) ≡ 5000)
 
--- the time of a call that sends
-abbrev pub sendingAt : Call → Told → List ℕ
-sendingAt call (t.refused x) = []
-sendingAt call nothing = []
-sendingAt call (sent which count bytes) = callTime call ∷ []
-sendingAt call (answered rec count) = []
-sendingAt call (otherKind answer count) = []
-sendingAt call (givenUp ground count) = []
-sendingAt call (ignored why) = []
+-- the start of a timer behind calls: the time of the last that sent, or its start before them
+abbrev pub startAfter : ℕ → List Event → ℕ
+startAfter before [] = before
+startAfter before (e ∷ es) = startAfter (startBehind (e .1) (callTime (e .0)) before) es
 
-abbrev pub sendingTimes : List Event → List ℕ
-sendingTimes [] = []
-sendingTimes (e ∷ es) = sendingAt (e .0) (e .1) ++ sendingTimes es
-
--- T0 runs from the last sending, or from the start: neither an answer, which may change the limit, nor a giving up restarts it
+-- T0 and T2 run from the last sending, or from the start: neither an answer, which may change T0's limit, nor a giving up restarts them
 abbrev pub RunsFromSending : Type 0
-RunsFromSending = (line at : ℕ) → isLine line ≡ true → (calls : List Call) → run (started line at) calls .t0 ≡ lastIn at (sendingTimes (eventsOf (started line at) calls))
+RunsFromSending = (m : Master) (calls : List Call) → (run m calls .t0 ≡ startAfter (m .t0) (eventsOf m calls)) × (run m calls .t2 ≡ startAfter (m .t2) (eventsOf m calls))

@@ -1,7 +1,9 @@
 // The rows of a slice's records, as many as there is room for.
 ghost use mathlib.Core.Path.{_≡_};
+ghost use Prim.Native.Nat.{_≤_};
+ghost use lib.ListN.{length};
 ghost use Rattle.text.specs.Putting.{puts};
-ghost use Rattle.recordings.specs.Replay.Texts.{refusedText};
+ghost use Rattle.recordings.specs.Replay.Texts.{rowRoom, refusedText};
 ghost use Rattle.recordings.specs.Replay.Part.{goesOn, put, refusedPut, nextPut, partOf};
 ghost use Rattle.recordings.specs.declared.replay.part.Stop.the-variants.{Goes};
 use crate::replay::rows::Rowed;
@@ -45,7 +47,7 @@ fn goes(stop: Stop) -> bool
 }
 
 // The last row, of a refusal.
-pub fn put_refused(out: &mut [u8], number: u8, offset: u64) -> usize
+pub(crate) fn put_refused(out: &mut [u8], number: u8, offset: u64) -> usize
     ensures { λ r. ⌜ (r, now (out .exit)) ≡ puts (refusedText number offset) 0 (now (out .entry)) ⌝ }
 {
     let a = put_no(out, 0, number, offset as usize);
@@ -54,7 +56,8 @@ pub fn put_refused(out: &mut [u8], number: u8, offset: u64) -> usize
 
 // A record that is refused: 20 waits for bytes that may follow, any other refusal ends the replay.
 fn refused(desk: Desk, number: u8, offset: u64, from: usize, out: &mut [u8]) -> Put
-    ensures { λ r. ⌜ (r, now (out .exit)) ≡ refusedPut desk number offset from (now (out .entry)) ⌝ }
+    requires { ⌜ rowRoom ≤ length (now out) ⌝ }
+    ensures { λ r. ⌜ ((r, now (out .exit)) ≡ refusedPut desk number offset from (now (out .entry))) × (r .length ≤ rowRoom) ⌝ }
 {
     if number == 20 {
         return Put {
@@ -86,9 +89,10 @@ fn rowed(rowed: Rowed, end: usize) -> Put
     }
 }
 
-// The record at a place, from the front of an output.
+// The record at a place, from the front of an output with room for any row.
 fn put_next(desk: Desk, ordinal: u64, offset: u64, s: &[u8], from: usize, out: &mut [u8]) -> Put
-    ensures { λ r. ⌜ (r, now (out .exit)) ≡ nextPut desk ordinal offset (now (s .entry)) from (now (out .entry)) ⌝ }
+    requires { ⌜ rowRoom ≤ length (now out) ⌝ }
+    ensures { λ r. ⌜ ((r, now (out .exit)) ≡ nextPut desk ordinal offset (now (s .entry)) from (now (out .entry))) × (r .length ≤ rowRoom) ⌝ }
 {
     let next = next_record(s, from);
     match next {
@@ -121,7 +125,7 @@ pub struct Replayed {
 }
 
 // The rows of the records of s, whose first byte has an offset of its own.
-pub fn replay_part(desk: Desk, ordinal: u64, base: u64, s: &[u8], out: &mut [u8]) -> Replayed
+pub(crate) fn replay_part(desk: Desk, ordinal: u64, base: u64, s: &[u8], out: &mut [u8]) -> Replayed
     ensures { λ r. ⌜ (r, now (out .exit)) ≡ partOf desk ordinal base (now (s .entry)) (now (out .entry)) ⌝ }
 {
     let mut desk = desk;

@@ -1,5 +1,6 @@
 // The desk behind a record of a log, and the row that it prints.
 ghost use mathlib.Core.Path.{_≡_};
+ghost use Rattle.records.specs.Answers.{answerOf};
 ghost use Rattle.desk.specs.Heard.{toldOf};
 ghost use Rattle.recordings.specs.Replay.Rows.{printed, heardRow, hearRow, tickRow, rowOf};
 use crate::replay::printing::put_hearing;
@@ -9,6 +10,8 @@ use desk::applying::Hearing;
 use desk::hearing::hear;
 use desk::state::Desk;
 use logs::marks::Mark;
+use reading::reading::read;
+use records::answers::Reading;
 
 // The desk behind a record, beside how many bytes of the output the row prints.
 pub struct Rowed {
@@ -16,20 +19,21 @@ pub struct Rowed {
     pub length: usize,
 }
 
-// What hearing answered, and what it sent.
+// What was heard, what hearing it answered, and what it sent.
 fn heard(
     hearing: Hearing,
     ordinal: u64,
     offset: u64,
     time: u32,
+    reading: Reading,
     sent: &[u8],
     out: &mut [u8],
 ) -> Rowed
-    ensures { λ r. ⌜ (r .desk, (r .length, now (out .exit))) ≡ printed (heardRow ordinal offset time (hearing .desk, toldOf (hearing .answer), now (sent .entry))) (now (out .entry)) ⌝ }
+    ensures { λ r. ⌜ (r .desk, (r .length, now (out .exit))) ≡ printed (heardRow ordinal offset time (answerOf reading) (hearing .desk, toldOf (hearing .answer), now (sent .entry))) (now (out .entry)) ⌝ }
 {
     let desk = hearing.desk;
     let answer = hearing.answer;
-    let length = put_hearing(out, ordinal, offset, time, answer, sent);
+    let length = put_hearing(out, ordinal, offset, time, reading, answer, sent);
     Rowed { desk, length }
 }
 
@@ -39,7 +43,8 @@ fn hear_row(desk: Desk, ordinal: u64, offset: u64, time: u32, frame: &[u8], out:
 {
     let mut sent = [0u8; LONGEST];
     let hearing = hear(desk, time, frame, &mut sent);
-    heard(hearing, ordinal, offset, time, &sent, out)
+    let reading = read(desk.line, frame);
+    heard(hearing, ordinal, offset, time, reading, &sent, out)
 }
 
 // The desk gets a tick.
@@ -57,7 +62,7 @@ fn tick_row(desk: Desk, ordinal: u64, offset: u64, time: u32, out: &mut [u8]) ->
 }
 
 // What the desk does at a record: it hears a sending by the master, gets a tick at a hit, and passes over one by the slave.
-pub fn put_row(
+pub(crate) fn put_row(
     desk: Desk,
     mark: Mark,
     ordinal: u64,

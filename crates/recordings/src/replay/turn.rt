@@ -9,7 +9,7 @@ use crate::replay::part::ROW_ROOM;
 use crate::replay::part::put_refused;
 use crate::replay::part::replay_part;
 use crate::replay::state::Replayer;
-use crate::replay::state::start;
+use crate::replay::state::begun;
 use crate::replay::state::turn_check;
 use crate::replay::state::wants_for;
 use characters::slices::byte_at;
@@ -21,6 +21,7 @@ use pieces::tails::keep_tail;
 use pieces::wants::Wants;
 use records::answers::Check;
 use records::answers::Writing;
+use records::refusals::Refusal;
 use text::putting::put_text;
 
 // The state behind a turn, and how many bytes of the output are to be written, or its refusal.
@@ -54,7 +55,7 @@ fn last(replayer: Replayer, out: &mut [u8]) -> Step
             answer: Writing::Written(0),
         };
     }
-    let filled = put_refused(&mut out[0..ROW_ROOM], 20, replayer.base);
+    let filled = put_refused(out, 20, replayer.base);
     Step {
         replayer: ended(replayer),
         answer: Writing::Written(filled),
@@ -83,20 +84,26 @@ fn carry_on(replayer: Replayer, buf: &mut [u8], n: usize, out: &mut [u8]) -> Ste
     }
 }
 
-// The input's first byte names the line; where it names none, or there is no byte, `no 15 0` is all that is said.
+// An output with no room for a row is refused 14. The input's first byte names the line; where it names none, or there is no byte, `no 15 0` is all that is said.
 pub fn open(first: &[u8], out: &mut [u8]) -> Step
     ensures { λ r. ⌜ (r .replayer, (outcomeOf (r .answer), now (out .exit))) ≡ openedOf (now (first .entry)) (now (out .entry)) ⌝ }
 {
+    if out.len() < ROW_ROOM {
+        return Step {
+            replayer: begun(0),
+            answer: Writing::Refused(Refusal::NoRoom),
+        };
+    }
     let line = line_named(byte_at(first, 0));
     if line == 0 {
         let filled = put_text(out, 0, &bad_line());
         return Step {
-            replayer: ended(start(line)),
+            replayer: ended(begun(line)),
             answer: Writing::Written(filled),
         };
     }
     Step {
-        replayer: start(line),
+        replayer: begun(line),
         answer: Writing::Written(0),
     }
 }
@@ -105,7 +112,7 @@ pub fn open(first: &[u8], out: &mut [u8]) -> Step
 pub fn replay(replayer: Replayer, buf: &mut [u8], got: usize, out: &mut [u8]) -> Step
     ensures { λ r. ⌜ (r .replayer, (outcomeOf (r .answer), (now (buf .exit), now (out .exit)))) ≡ turnOf replayer (now (buf .entry)) got (now (out .entry)) ⌝ }
 {
-    let check = turn_check(replayer.held, buf.len(), got, out.len());
+    let check = turn_check(replayer, buf.len(), got, out.len());
     if let Check::Fails(refusal) = check {
         return Step {
             replayer,

@@ -1,10 +1,11 @@
 -- Which call a row of the desk names (docs/SCENES.md). Assumes nothing.
-use mathlib.Core.Bool.{cond}
+use mathlib.Core.Bool.{Bool, true, cond}
 use mathlib.Core.List.{List}
 use Prim.Native.Nat.{ℕ}
 use lib.Dec.{eqb}
 use Rattle.laws.specs.Text.{codes}
 use Rattle.text.specs.Fields.{wordOf, wordPlace}
+use Rattle.scripts.specs.Numbers.{areNumbers}
 use Rattle.scripts.specs.declared.desks.calls.Quiet as q
 use Rattle.scripts.specs.declared.desks.calls.Field as f
 use Rattle.scripts.specs.declared.desks.calls.Call.{Call}
@@ -34,8 +35,29 @@ callNumbered n field =
     (cond (eqb n 7) c.the-variants.Show
     c.the-variants.Unknown)))))))
 
+-- the words that a call takes as numbers are numbers: a line, a time, a room, what is put into a field, the values of a record
+abbrev pub quietNumbered : q.Quiet → List ℕ → Bool
+quietNumbered q.the-variants.Start row = areNumbers 2 3 row
+quietNumbered q.the-variants.Tick row = areNumbers 2 3 row
+quietNumbered q.the-variants.Queue row = areNumbers 3 13 row
+quietNumbered q.the-variants.Set row = areNumbers 3 13 row
+quietNumbered q.the-variants.Key row = true
+
+abbrev pub wellNumbered : Call → List ℕ → Bool
+wellNumbered (c.the-variants.Quiet quiet) row = quietNumbered quiet row
+wellNumbered c.the-variants.Hear row = areNumbers 2 4 row
+wellNumbered (c.the-variants.Alter field) row = areNumbers 3 4 row
+wellNumbered c.the-variants.Show row = true
+wellNumbered c.the-variants.Unknown row = true
+
+-- a row with a number that is none names no call
+unfoldable pub namedBy : Call → List ℕ → Call
+namedBy call row = cond (wellNumbered call row) call c.the-variants.Unknown
+
 unfoldable pub callOf : List ℕ → Call
 callOf row =
-    callNumbered
+    namedBy
+    (callNumbered
     (wordPlace (codes "start tick queue set key hear alter show") 8 (wordOf 1 row))
-    (wordPlace (codes "line good last kept queued key") 6 (wordOf 2 row))
+    (wordPlace (codes "line good last kept queued key") 6 (wordOf 2 row)))
+    row

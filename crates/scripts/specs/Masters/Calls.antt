@@ -1,10 +1,12 @@
 -- Which call a row of the master names (docs/SCENES.md). Assumes nothing.
-use mathlib.Core.Bool.{cond}
+use mathlib.Core.Bool.{Bool, true, cond}
 use mathlib.Core.List.{List}
 use Prim.Native.Nat.{ℕ}
 use lib.Dec.{eqb}
 use Rattle.laws.specs.Text.{codes}
 use Rattle.text.specs.Fields.{wordOf, wordPlace}
+use Rattle.laws.specs.Truth.{both}
+use Rattle.scripts.specs.Numbers.{areNumbers}
 use Rattle.scripts.specs.declared.masters.calls.Sends as s
 use Rattle.scripts.specs.declared.masters.calls.Field as f
 use Rattle.scripts.specs.declared.masters.calls.Call.{Call}
@@ -30,8 +32,27 @@ callNumbered n field =
     (cond (eqb n 5) c.the-variants.Show
     c.the-variants.Unknown)))))
 
+-- the words that a call takes as numbers are numbers: a line, a time, a room, what is put into a field, the values of a record
+abbrev pub sendsNumbered : s.Sends → List ℕ → Bool
+sendsNumbered s.the-variants.Tick row = true
+sendsNumbered s.the-variants.Offer row = areNumbers 5 15 row
+sendsNumbered s.the-variants.Hear row = true
+
+abbrev pub wellNumbered : Call → List ℕ → Bool
+wellNumbered c.the-variants.Start row = areNumbers 2 4 row
+wellNumbered (c.the-variants.Sends sends) row = both (areNumbers 2 4 row) (sendsNumbered sends row)
+wellNumbered (c.the-variants.Alter field) row = areNumbers 3 4 row
+wellNumbered c.the-variants.Show row = true
+wellNumbered c.the-variants.Unknown row = true
+
+-- a row with a number that is none names no call
+unfoldable pub namedBy : Call → List ℕ → Call
+namedBy call row = cond (wellNumbered call row) call c.the-variants.Unknown
+
 unfoldable pub callOf : List ℕ → Call
 callOf row =
-    callNumbered
+    namedBy
+    (callNumbered
     (wordPlace (codes "start tick offer hear alter show") 6 (wordOf 1 row))
-    (wordPlace (codes "line number count operation") 4 (wordOf 2 row))
+    (wordPlace (codes "line number count operation") 4 (wordOf 2 row)))
+    row

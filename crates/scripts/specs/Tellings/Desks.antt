@@ -32,8 +32,15 @@ faultText lost n = notedText lost ++ (codes "fault, " ++ bytesText n)
 unfoldable pub repeatText : ℕ → List ℕ
 repeatText n = codes "repeat, " ++ bytesText n
 
+-- a telegram is handled, and this is where the answer comes from and how many bytes it has
+unfoldable pub handlingText : Bool → List ℕ
+handlingText lost = notedText lost ++ codes "handled, "
+
+unfoldable pub answeringText : Origin → ℕ → List ℕ
+answeringText origin n = originText origin ++ (codes ", " ++ bytesText n)
+
 unfoldable pub handledText : Bool → Origin → ℕ → List ℕ
-handledText lost origin n = notedText lost ++ (codes "handled, " ++ (originText origin ++ (codes ", " ++ bytesText n)))
+handledText lost origin n = handlingText lost ++ answeringText origin n
 
 -- a call that hears
 abbrev pub toldText : Told → List ℕ

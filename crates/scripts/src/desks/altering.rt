@@ -5,7 +5,7 @@ use crate::desks::calls::Field;
 use clock::counters::LastTaken;
 use desk::state::Desk;
 
-pub fn altered(d: Desk, field: Field, value: u32) -> Desk
+pub(crate) fn altered(d: Desk, field: Field, value: u32) -> Desk
     ensures { λ r. ⌜ r ≡ alteredOf d field value ⌝ }
 {
     let small = (value % 256) as u8;

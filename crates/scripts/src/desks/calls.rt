@@ -1,7 +1,8 @@
 // Which call a row of the desk names.
 ghost use mathlib.Core.Path.{_≡_};
-ghost use Rattle.scripts.specs.Desks.Calls.{alterNumbered, callNumbered, callOf};
+ghost use Rattle.scripts.specs.Desks.Calls.{alterNumbered, callNumbered, quietNumbered, wellNumbered, callOf};
 use crate::meanings::named;
+use crate::numbers::are_numbers;
 
 // The calls that hear nothing.
 pub enum Quiet {
@@ -62,10 +63,42 @@ fn call_numbered(n: usize, field: usize) -> Call
     }
 }
 
+// Whether the words that a call that hears nothing takes as numbers are numbers.
+fn quiet_numbered(quiet: Quiet, row: &[u8]) -> bool
+    ensures { λ r. ⌜ r ≡ quietNumbered quiet (now (row .entry)) ⌝ }
+{
+    match quiet {
+        Quiet::Start => are_numbers(row, 2, 3),
+        Quiet::Tick => are_numbers(row, 2, 3),
+        Quiet::Queue => are_numbers(row, 3, 13),
+        Quiet::Set => are_numbers(row, 3, 13),
+        Quiet::Key => true,
+    }
+}
+
+// Whether all words that a call takes as numbers are numbers.
+fn well_numbered(call: Call, row: &[u8]) -> bool
+    ensures { λ r. ⌜ r ≡ wellNumbered call (now (row .entry)) ⌝ }
+{
+    match call {
+        Call::Quiet(quiet) => quiet_numbered(quiet, row),
+        Call::Hear => are_numbers(row, 2, 4),
+        Call::Alter(_) => are_numbers(row, 3, 4),
+        Call::Show => true,
+        Call::Unknown => true,
+    }
+}
+
+// A row with a number that is none names no call.
 pub fn call_of(row: &[u8]) -> Call
     ensures { λ r. ⌜ r ≡ callOf (now (row .entry)) ⌝ }
 {
     let n = named(row, 1, b"start tick queue set key hear alter show", 8);
     let field = named(row, 2, b"line good last kept queued key", 6);
-    call_numbered(n, field)
+    let call = call_numbered(n, field);
+    if well_numbered(call, row) {
+        call
+    } else {
+        Call::Unknown
+    }
 }

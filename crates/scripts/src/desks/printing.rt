@@ -131,7 +131,7 @@ fn put_queue(out: &mut [u8], at: usize, queue: [Waiting; 8], queued: usize) -> u
 }
 
 // The whole state: its numbers, the record set for r and those that wait.
-pub fn put_whole(out: &mut [u8], row: &[u8], d: Desk) -> usize
+pub(crate) fn put_whole(out: &mut [u8], row: &[u8], d: Desk) -> usize
     ensures { λ r. ⌜ (r, now (out .exit)) ≡ puts (wholeText (now (row .entry)) d) 0 (now (out .entry)) ⌝ }
 {
     let stored = d.stored;

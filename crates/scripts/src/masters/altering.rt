@@ -5,7 +5,7 @@ use crate::masters::calls::Field;
 use clock::counters::ToSend;
 use master::state::Master;
 
-pub fn altered(m: Master, field: Field, value: u8) -> Master
+pub(crate) fn altered(m: Master, field: Field, value: u8) -> Master
     ensures { λ r. ⌜ r ≡ alteredOf m field value ⌝ }
 {
     let mut e = m;

@@ -1,7 +1,8 @@
 // Which call a row of the master names.
 ghost use mathlib.Core.Path.{_≡_};
-ghost use Rattle.scripts.specs.Masters.Calls.{alterNumbered, callNumbered, callOf};
+ghost use Rattle.scripts.specs.Masters.Calls.{alterNumbered, callNumbered, sendsNumbered, wellNumbered, callOf};
 use crate::meanings::named;
+use crate::numbers::are_numbers;
 
 // The calls that may send.
 pub enum Sends {
@@ -54,10 +55,40 @@ fn call_numbered(n: usize, field: usize) -> Call
     }
 }
 
+// Whether the words behind time and room that a call takes as numbers are numbers.
+fn sends_numbered(sends: Sends, row: &[u8]) -> bool
+    ensures { λ r. ⌜ r ≡ sendsNumbered sends (now (row .entry)) ⌝ }
+{
+    match sends {
+        Sends::Tick => true,
+        Sends::Offer => are_numbers(row, 5, 15),
+        Sends::Hear => true,
+    }
+}
+
+// Whether all words that a call takes as numbers are numbers.
+fn well_numbered(call: Call, row: &[u8]) -> bool
+    ensures { λ r. ⌜ r ≡ wellNumbered call (now (row .entry)) ⌝ }
+{
+    match call {
+        Call::Start => are_numbers(row, 2, 4),
+        Call::Sends(sends) => are_numbers(row, 2, 4) && sends_numbered(sends, row),
+        Call::Alter(_) => are_numbers(row, 3, 4),
+        Call::Show => true,
+        Call::Unknown => true,
+    }
+}
+
+// A row with a number that is none names no call.
 pub fn call_of(row: &[u8]) -> Call
     ensures { λ r. ⌜ r ≡ callOf (now (row .entry)) ⌝ }
 {
     let n = named(row, 1, b"start tick offer hear alter show", 6);
     let field = named(row, 2, b"line number count operation", 4);
-    call_numbered(n, field)
+    let call = call_numbered(n, field);
+    if well_numbered(call, row) {
+        call
+    } else {
+        Call::Unknown
+    }
 }

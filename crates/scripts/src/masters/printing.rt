@@ -85,7 +85,7 @@ fn put_busy(out: &mut [u8], at: usize, count: u8, t2: u32, rec: Record) -> usize
 }
 
 // The whole state.
-pub fn put_whole(out: &mut [u8], row: &[u8], m: Master) -> usize
+pub(crate) fn put_whole(out: &mut [u8], row: &[u8], m: Master) -> usize
     ensures { λ r. ⌜ (r, now (out .exit)) ≡ puts (wholeText (now (row .entry)) m) 0 (now (out .entry)) ⌝ }
 {
     let rec = m.rec;

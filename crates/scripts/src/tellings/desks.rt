@@ -5,7 +5,7 @@ ghost use Rattle.desk.specs.Replying.{originOf};
 ghost use Rattle.desk.specs.Answers.{doneOf};
 ghost use Rattle.desk.specs.Heard.{toldOf};
 ghost use Rattle.text.specs.Putting.{puts};
-ghost use Rattle.scripts.specs.Tellings.Desks.{doneText, notedText, silentText, faultText, repeatText, handledText, toldText};
+ghost use Rattle.scripts.specs.Tellings.Desks.{doneText, notedText, silentText, faultText, repeatText, handlingText, answeringText, handledText, toldText};
 use crate::printing::put_either;
 use crate::tellings::sources::put_source;
 use desk::answers::Outcome;
@@ -57,14 +57,28 @@ fn put_repeat(out: &mut [u8], at: usize, n: usize) -> usize
     put_bytes(out, a, n)
 }
 
+// A telegram is handled.
+pub fn put_handling(out: &mut [u8], at: usize, lost: bool) -> usize
+    ensures { λ r. ⌜ (r, now (out .exit)) ≡ puts (handlingText lost) at (now (out .entry)) ⌝ }
+{
+    let a = put_noted(out, at, lost);
+    put_text(out, a, b"handled, ")
+}
+
+// Where the answer to it comes from, and how many bytes it has.
+pub fn put_answering(out: &mut [u8], at: usize, s: Source, n: usize) -> usize
+    ensures { λ r. ⌜ (r, now (out .exit)) ≡ puts (answeringText (originOf s) n) at (now (out .entry)) ⌝ }
+{
+    let a = put_source(out, at, s);
+    let b = put_text(out, a, b", ");
+    put_bytes(out, b, n)
+}
+
 fn put_handled(out: &mut [u8], at: usize, lost: bool, s: Source, n: usize) -> usize
     ensures { λ r. ⌜ (r, now (out .exit)) ≡ puts (handledText lost (originOf s) n) at (now (out .entry)) ⌝ }
 {
-    let a = put_noted(out, at, lost);
-    let b = put_text(out, a, b"handled, ");
-    let c = put_source(out, b, s);
-    let d = put_text(out, c, b", ");
-    put_bytes(out, d, n)
+    let a = put_handling(out, at, lost);
+    put_answering(out, a, s, n)
 }
 
 // A call that hears.

@@ -10,5 +10,5 @@ unfolding kindNumbered
 kind-numbered-spec =
     tie.close
     (tie.spec
-    (λ c κs. search needs) (λ c. rw (c .match .keys1)) (λ c. rw (c .match .keys2)) (λ c. rw (c .match .keys3))
+    (λ c κs. search needs) (λ c κs. search needs) (λ c. rw (c .match .keys1)) (λ c. rw (c .match .keys2)) (λ c. rw (c .before .match .keys3) (c .elapsed .ensures))
     (λ c. let m = c .before .match .rest in rw (ne-eqb _ _ (m .0 .0 .1), ne-eqb _ _ (m .0 .1), ne-eqb _ _ (m .1)) (c .unnamed .ensures)))

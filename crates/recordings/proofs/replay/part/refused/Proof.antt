@@ -1,21 +1,26 @@
 -- `refused` waits at 20 and ends at any other refusal. Assumes nothing.
-use Rattle.recordings.specs.Replay.Part.{textPut, refusedPut}
-use Rattle.recordings.specs.declared.replay.part.Stop.the-variants.{Over}
-use Rattle.recordings.specs.declared.replay.part.Put.{Put}
+use Rattle.recordings.specs.Replay.Part.{refusedPut}
+use Rattle.recordings.specs.Replay.Texts.{refusedText}
+use Rattle.recordings.proofs.Bounds.{last-fits}
+use Rattle.recordings.proofs.Placed.{put-whole}
 use borrow.Author.Tests.{eq-eqb, ne-eqb}
-use Prim.Native.Nat.{ℕ}
-use mathlib.Core.List.{List}
-use mathlib.Core.Path.{ap}
+use denote.Ref.{now}
+use native.Mathlib.Omega.{arith}
 use borrow.Author.Needs.{needs}
 use Rattle.recordings.proofs.replay.part.refused.Statement.{statement}
 use Rattle.recordings.proofs.replay.part.refused.Tie as tie
+
+returns : tie.Need-returns
+unfolding refusedPut
+returns c = (rw (eq-eqb (c .before .before .args .number) 20 (c .if1 .taken)), omega arith)
 
 returns-2 : tie.Need-returns-2
 unfolding refusedPut
 returns-2 c =
     let a = c .before .before .before .before .before .before .args in
-    rw (ne-eqb (a .number) 20 (c .before .before .before .before .if1 .left)) (ap {B = Put × List ℕ} (λ (y : ℕ × List ℕ). textPut (a .desk) (a .from) Over y) (c .before .before .put-refused .ensures))
+    let fits = last-fits (a .number) (a .offset) (search needs) (search needs) in
+    let w = put-whole (refusedText (a .number) (a .offset)) (now (a .out)) _ _ (omega (arith, fits)) (c .before .before .put-refused .ensures) in
+    (rw (ne-eqb (a .number) 20 (c .before .before .before .before .if1 .left), w .0, w .1), omega (arith, w .0, fits))
 
 pub refused-spec : {M : Type 1} → statement M
-unfolding refusedPut
-refused-spec = tie.close (tie.spec (λ c. rw (eq-eqb (c .before .before .args .number) 20 (c .if1 .taken))) (λ c κs. search needs) (λ c. search needs) returns-2)
+refused-spec = tie.close (tie.spec returns (λ c κs. search needs) (λ c. search needs) returns-2)

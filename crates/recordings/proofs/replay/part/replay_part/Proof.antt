@@ -1,9 +1,8 @@
 -- `replay_part` goes from record to record: what the rows come to from the loop's place on is what they come to from the first. Assumes nothing.
-use Rattle.recordings.proofs.Step.{onFrom, no-room, put-told, stop-told, row-fits}
+use Rattle.recordings.proofs.Step.{onFrom, no-room, put-told, stop-told}
 use Rattle.recordings.specs.Replay.Part.{logFrom, partOf}
 use Prim.Native.Nat.{_+_, _-_, _≤_}
 use mathlib.Core.Path.{_≡_, refl, sym, _∙_}
--- `replay_part` goes from record to record: what the rows come to from the loop's place on is what they come to from the first. Assumes nothing.
 use Rattle.laws.proofs.Truths.{not-true, not-false}
 use denote.Ref.{now}
 use borrow.Author.Needs.{needs}
@@ -23,16 +22,7 @@ add-end : tie.Need-add-end Inv-loop μ-loop
 add-end c = search needs
 
 add-filled : tie.Need-add-filled Inv-loop μ-loop
-add-filled c =
-    let a = c .before .before .before .before .before .before .before .before .before .before .args in
-    let l = c .before .before .before .before .before .before .before .loop in
-    let loop-test = c .before .before .before .before .before .before .loop-test in
-    let wrapping-add-u64 = c .before .before .before .before .before .wrapping-add-u64 in
-    let put-next = c .before .before .before .put-next in
-    let f =
-    row-fits (a .base) (now (a .s)) (l .desk) (l .count) (l .next) (l .filled) (l .out) (l .filled + 1024 - l .filled) (omega arith)
-    (omega (arith, loop-test .taken)) _ (wrapping-add-u64 .ensures) (put-next .result) _ (put-next .ensures) in
-    omega (arith, f, add-end (c .before .before .before .before .before) .fits)
+add-filled c = omega (arith, c .before .before .before .put-next .ensures .1, add-end (c .before .before .before .before .before) .fits)
 
 same-length : tie.Need-same-length Inv-loop μ-loop
 same-length c = c .before .before .before .before .out .given .1 ∙ c .before .before .before .before .before .before .before .before .before .loop .inv .1
@@ -45,7 +35,7 @@ returns c =
     let wrapping-add-u64 = c .before .before .before .before .before .before .before .wrapping-add-u64 in
     let put-next = c .before .before .before .before .before .put-next in
     stop-told (a .base) (now (a .s)) (l .desk) (l .count) (l .next) (l .filled) (l .out) (l .filled + 1024 - l .filled) (omega arith)
-    (omega (arith, loop-test .taken)) _ (wrapping-add-u64 .ensures) (put-next .result) _ (put-next .ensures)
+    (omega (arith, loop-test .taken)) _ (wrapping-add-u64 .ensures) (put-next .result) _ (put-next .ensures .0) (put-next .ensures .1)
     (sym (c .before .goes .ensures) ∙ not-true _ (c .if1 .taken))
     ∙ l .inv .2
 
@@ -59,7 +49,7 @@ loop-less c =
     let goes = c .before .before .before .goes in
     let p =
     put-told (a .base) (now (a .s)) (l .desk) (l .count) (l .next) (l .filled) (l .out) (l .filled + 1024 - l .filled) (omega arith)
-    (omega (arith, loop-test .taken)) _ (wrapping-add-u64 .ensures) (put-next .result) _ (put-next .ensures)
+    (omega (arith, loop-test .taken)) _ (wrapping-add-u64 .ensures) (put-next .result) _ (put-next .ensures .0) (put-next .ensures .1)
     (sym (goes .ensures) ∙ not-false _ (c .before .before .if1 .left)) in
     omega (arith, p .0, p .1)
 
@@ -74,9 +64,9 @@ loop-again c =
     let goes = c .before .before .before .goes in
     let p =
     put-told (a .base) (now (a .s)) (l .desk) (l .count) (l .next) (l .filled) (l .out) (l .filled + 1024 - l .filled) (omega arith)
-    (omega (arith, loop-test .taken)) _ (wrapping-add-u64 .ensures) (put-next .result) _ (put-next .ensures)
+    (omega (arith, loop-test .taken)) _ (wrapping-add-u64 .ensures) (put-next .result) _ (put-next .ensures .0) (put-next .ensures .1)
     (sym (goes .ensures) ∙ not-false _ (c .before .before .if1 .left)) in
-    (omega (arith, p .2, loop-test .taken, out .given .1), out .given .1 ∙ l .inv .1, rw (c .before .wrapping-add-u642 .ensures) (p .3 ∙ l .inv .2))
+    (omega (arith, put-next .ensures .1, loop-test .taken, out .given .1), out .given .1 ∙ l .inv .1, rw (c .before .wrapping-add-u642 .ensures) (p .2 ∙ l .inv .2))
 
 returns-2 : tie.Need-returns-2 Inv-loop μ-loop
 returns-2 c =

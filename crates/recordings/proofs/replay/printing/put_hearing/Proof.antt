@@ -10,11 +10,11 @@ returns : tie.Need-returns
 unfolding heardText
 returns c =
     let begin = c .before .before .before .before .before .before .before .before .before .before .before .before .before .before .before .before .begin in
-    let put-heard = c .before .before .before .before .before .before .before .before .before .before .before .before .put-heard in
+    let put-did = c .before .before .before .before .before .before .before .before .before .before .before .before .put-did in
     let sent-count = c .before .before .before .before .before .before .before .sent-count in
     let first = c .before .before .before .before .before .before .first in
     let f = by-count _ _ _ _ _ _ _ _ (sent-count .ensures) (first .ensures) in
-    then _ _ _ _ _ _ _ _ (begin .ensures) (then _ _ _ _ _ _ _ _ (put-heard .ensures) (then _ _ _ _ _ _ _ _ f (c .before .before .put-byte .ensures)))
+    then _ _ _ _ _ _ _ _ (begin .ensures) (then _ _ _ _ _ _ _ _ (put-did .ensures) (then _ _ _ _ _ _ _ _ f (c .before .before .put-byte .ensures)))
 
 pub put-hearing-spec : {M : Type 1} → statement M
 put-hearing-spec =

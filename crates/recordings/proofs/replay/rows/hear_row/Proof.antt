@@ -9,5 +9,5 @@ unfolding hearRow
 hear-row-spec =
     tie.close
     (tie.spec
-    (λ c. search needs) (λ c κs. search needs) (λ c. search needs) (λ c κs. search needs) (λ c. search needs)
-    (λ c. rw (c .before .before .heard .ensures, c .before .before .before .before .before .before .hear .ensures)))
+    (λ c. search needs) (λ c κs. search needs) (λ c κs. search needs) (λ c. search needs) (λ c κs. search needs) (λ c. search needs)
+    (λ c. rw (c .before .before .heard .ensures, c .before .before .before .before .before .before .before .hear .ensures, c .before .before .before .before .before .read .ensures)))

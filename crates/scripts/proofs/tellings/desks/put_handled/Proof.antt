@@ -7,8 +7,4 @@ use Rattle.scripts.proofs.tellings.desks.put_handled.Tie as tie
 
 pub put-handled-spec : {M : Type 1} → statement M
 unfolding handledText
-put-handled-spec =
-    tie.close
-    (tie.spec
-    (λ c κs. search needs) (λ c. search needs) (λ c κs. search needs) (λ c κs. search needs) (λ c. search needs) (λ c κs. search needs)
-    (λ c κs. search needs) (λ c. search needs) (λ c. search then))
+put-handled-spec = tie.close (tie.spec (λ c κs. search needs) (λ c κs. search needs) (λ c. search needs) (λ c. search then))

@@ -1,33 +1,20 @@
--- A text put into a part of an output is cut where the part ends. Assumes nothing.
+-- A text that has room is put whole, and one put into a part of an output stands where the part begins. Assumes nothing.
 use mathlib.Core.Path.{_≡_, sym, ap, _∙_}
 use mathlib.Core.List.{List, _++_, append-assoc}
 use Prim.Native.Nat.{ℕ, _+_, _≤_}
 use native.Mathlib.Omega.{arith}
 use native.Mathlib.Nat.{zero-add}
-use lib.ListN.{length, take, drop, take-append-drop, length-append, length-take, length-drop}
-use lib.Seq.{take-all, length-take-le, drop-append-le, drop-drop}
+use lib.ListN.{length, take, drop, take-append-drop, length-take, length-drop}
+use lib.Seq.{length-take-le, drop-append-le, drop-drop}
 use borrow.Rule.Slice.PartMut.{midOf, putMid}
-use Rattle.laws.proofs.Passes.{order}
 use Rattle.text.specs.Putting.{puts, placed}
-use Rattle.text.proofs.Puts.{full, onward, with-room}
+use Rattle.text.proofs.Puts.{with-room}
 
--- a text as long as the output fills it
-fills : (t out : List ℕ) → length t ≡ length out → length (placed t 0 out .1) ≤ placed t 0 out .0
+pub put-whole : (t out : List ℕ) (n : ℕ) (x : List ℕ) → length t ≤ length out → (n, x) ≡ puts t 0 out → (n ≡ length t) × (x ≡ placed t 0 out .1)
 unfolding placed
-fills t out c = omega (arith, c, length-append t (drop (0 + length t) out), length-drop (0 + length t) out)
-
--- what is put from the front is as much of the text as there is room for
-pub puts-cut : (t out : List ℕ) → puts t 0 out ≡ placed (take (length out) t) 0 out
-puts-cut t out =
-    order (length t) (length out)
-    (λ h. rw (take-all (length out) t (omega arith)) (with-room t 0 out (omega arith)))
-    (λ h.
-    let c : length (take (length out) t) ≡ length out = length-take-le (length out) t h in
-    let p = placed (take (length out) t) 0 out in
-    let f = full (drop (length out) t) (placed (take (length out) t) 0 out .0) (placed (take (length out) t) 0 out .1) (fills (take (length out) t) out c) in
-    let o = onward (take (length out) t) (drop (length out) t) 0 out (placed (take (length out) t) 0 out .0) (placed (take (length out) t) 0 out .1)
-    (sym (with-room (take (length out) t) 0 out (omega (arith, c)))) in
-    ap (λ (u : List ℕ). puts u 0 out) (sym (take-append-drop (length out) t)) ∙ (sym o ∙ f))
+put-whole t out n x h e =
+    let p : (n, x) ≡ placed t 0 out = e ∙ with-room t 0 out (omega arith) in
+    (ap (λ (y : ℕ × List ℕ). y .0) p ∙ zero-add (length t), ap (λ (y : ℕ × List ℕ). y .1) p)
 
 -- a text at the front of a part of an output stands where the part begins
 pub at-part : (t out : List ℕ) (filled k : ℕ) → length t ≤ k → filled + k ≤ length out → putMid filled k out (placed t 0 (midOf filled k out) .1) ≡ placed t filled out .1
