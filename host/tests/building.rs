@@ -3,7 +3,7 @@
 
 mod machine;
 
-use machine::{program, repository};
+use machine::{copied, program};
 use std::fs;
 use std::os::unix::fs::symlink;
 use std::path::{Path, PathBuf};
@@ -12,7 +12,8 @@ use std::time::Duration;
 
 const KIT: &str = "kit of the test";
 
-/// A stand-in for rt: it takes the crates in order, writes what rt writes, and fails at the crate in FAILS.
+/// A stand-in for rt: it takes the crates in order with a pause in each, writes what rt writes, and
+/// fails at the crate in FAILS.
 const RT: &str = r#"#!/bin/sh
 case $1 in
 version) echo "$KIT"; exit ;;
@@ -22,7 +23,7 @@ esac
 mkdir -p target/log
 for crate in one two three; do
   echo "rt: a line of the prover on $crate" >target/log/$crate.out
-  sleep 1.3 &
+  sleep PAUSE &
   echo $! >child
   wait
   if [ "$crate" = "$FAILS" ]; then
@@ -36,20 +37,25 @@ done
 echo ends >>turns
 "#;
 
+/// A pause of the stand-in, in seconds: none to speak of, or one in which a build on a busy machine is
+/// seen at work.
+const SHORT: &str = "0.1";
+const LONG: &str = "2";
+
 /// A repository of three crates with the tools, and a folder with the stand-in.
-fn made(name: &str) -> PathBuf {
+fn made(name: &str, pause: &str) -> PathBuf {
     let folder = Path::new(env!("CARGO_TARGET_TMPDIR")).join(name);
     let _ = fs::remove_dir_all(&folder);
     fs::create_dir_all(folder.join("tools")).expect("a folder");
     fs::create_dir_all(folder.join("bin")).expect("a folder");
     for tool in ["tools/build", "tools/input"] {
-        fs::copy(repository(tool), folder.join(tool)).expect("a copy");
+        copied(tool, &folder);
     }
     let kits = format!("{KIT}\nan older kit\n");
     fs::write(folder.join("tools/kit-version"), kits).expect("a file");
     program(&folder.join("tools/kit"), "#!/bin/sh\necho \"$1\"\n");
     fs::write(folder.join("crates.txt"), "one:\ntwo: one io\nthree: two\n").expect("a file");
-    program(&folder.join("bin/rt"), RT);
+    program(&folder.join("bin/rt"), &RT.replace("PAUSE", pause));
     folder
 }
 
@@ -86,7 +92,7 @@ fn stops(output: &Output, line: &str) {
 
 #[test]
 fn one_line_a_crate() {
-    let folder = made("a build");
+    let folder = made("a build", LONG);
     let output = build(&folder, &["check", "three"], KIT, "");
     let lines = "proving 1 of 3: one\nproving 2 of 3: two\nproving 3 of 3: three\n";
     let said = text(&output.stderr);
@@ -108,7 +114,7 @@ fn one_line_a_crate() {
 /// The prover's lines are shown of the crate that fails, and of no other.
 #[test]
 fn a_crate_that_fails() {
-    let folder = made("a build that fails");
+    let folder = made("a build that fails", SHORT);
     let output = build(&folder, &["check", "three"], KIT, "two");
     let said = text(&output.stderr);
     assert!(said.contains("a line of the prover on two\nrt: two NOT PROVED"));
@@ -118,7 +124,7 @@ fn a_crate_that_fails() {
 
 #[test]
 fn a_kit_that_is_missing_or_another() {
-    let folder = made("a build without a kit");
+    let folder = made("a build without a kit", SHORT);
     let output = build(&folder, &["check", "three"], "kit 7", "");
     stops(&output, "build: wanted is the kit 'kit of the test', found is 'kit 7'; ANY_KIT=1 in front of make goes on with it");
     let mut other = building(&folder, &["check", "three"], "kit 7", "");
@@ -152,7 +158,7 @@ fn a_kit_that_is_missing_or_another() {
 /// Two builds in one folder take turns, and the second says that it waits.
 #[test]
 fn two_builds() {
-    let folder = made("two builds");
+    let folder = made("two builds", LONG);
     let start = || {
         let mut command = building(&folder, &["check", "three"], KIT, "");
         command.stderr(Stdio::piped()).spawn().expect("it starts")
@@ -173,7 +179,7 @@ fn two_builds() {
 #[test]
 fn an_interrupted_build() {
     for signal in ["INT", "TERM", "HUP"] {
-        let folder = made(&format!("a build ended by {signal}"));
+        let folder = made(&format!("a build ended by {signal}"), LONG);
         let mut build = building(&folder, &["check", "three"], KIT, "")
             .stderr(Stdio::null())
             .spawn()
@@ -189,7 +195,7 @@ fn an_interrupted_build() {
         let sent = kill.args(["-s", signal, &number]).status();
         assert!(sent.expect("it is sent").success());
         assert_eq!(build.wait().expect("it ends").code(), Some(130));
-        let ended = (0..20).any(|_| {
+        let ended = (0..200).any(|_| {
             std::thread::sleep(Duration::from_millis(50));
             !runs()
         });
@@ -210,7 +216,7 @@ fn wait_for(file: &Path) {
 
 #[test]
 fn inputs() {
-    let folder = made("an input");
+    let folder = made("an input", SHORT);
     fs::write(folder.join("empty"), "").expect("a file");
     let input = |word: &str| {
         let mut tool = Command::new(folder.join("tools/input"));

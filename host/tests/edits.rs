@@ -2,7 +2,7 @@
 
 mod machine;
 
-use machine::{program, repository};
+use machine::{copied, program};
 use std::fs;
 use std::path::{Path, PathBuf};
 use std::process::Command;
@@ -62,7 +62,7 @@ fn made(name: &str, edit: &str) -> Made {
     ] {
         fs::create_dir_all(folder.join(part)).expect("a folder");
     }
-    fs::copy(repository("tools/edits"), folder.join("tools/edits")).expect("a copy");
+    copied("tools/edits", &folder);
     program(&folder.join("bin/rt"), RT);
     for (file, text) in [
         ("crates.txt", "upper: below io\nbelow:\n"),

@@ -6,7 +6,6 @@
 use std::collections::BTreeSet;
 use std::fs;
 use std::io::Write;
-use std::os::unix::fs::PermissionsExt;
 use std::path::{Path, PathBuf};
 use std::process::{Command, Stdio};
 use std::sync::Mutex;
@@ -20,10 +19,25 @@ pub fn text(path: &str) -> String {
     fs::read_to_string(repository(path)).expect(path)
 }
 
-/// Writes a file that may run.
+/// Writes a file that may run. `install` writes it, and not this process: what this process has open
+/// for writing is open in each child that another test starts meanwhile, and a file that is open for
+/// writing does not run.
 pub fn program(path: &Path, text: &str) {
-    fs::write(path, text).expect("a file");
-    fs::set_permissions(path, fs::Permissions::from_mode(0o755)).expect("it may run");
+    let mut install = Command::new("install")
+        .args(["-m", "755", "/dev/stdin"])
+        .arg(path)
+        .stdin(Stdio::piped())
+        .spawn()
+        .expect("install starts");
+    let mut input = install.stdin.take().expect("a pipe");
+    input.write_all(text.as_bytes()).expect("it is taken");
+    drop(input);
+    assert!(install.wait().expect("install ends").success());
+}
+
+/// Copies a file of the repository that may run to the same path in a folder.
+pub fn copied(path: &str, folder: &Path) {
+    program(&folder.join(path), &text(path));
 }
 
 /// Says once why tests do nothing. It writes past the test runner, which hides what a passed test
