@@ -1,7 +1,7 @@
-//! The desk, the slave's end of a line: rules D1 to D16, E1 to E12, R12 to R15
+//! The desk, the slave's end of a line: rules D1 to D19, E1 to E12, R12 to R15
 //! and R17.
 
-use crate::second::clock::run_out;
+use crate::second::clock::{left, run_out};
 use crate::second::faults::is_on;
 use crate::second::reading::read;
 use crate::second::records::{by_master, data_type, Record};
@@ -141,6 +141,33 @@ impl Desk {
         }
         self.requested = Some(record);
         Ok(())
+    }
+
+    /// The queue is empty again; all else stays.
+    pub fn clear_queue(&mut self) -> Result<(), Refusal> {
+        if !self.in_ranges() {
+            return Err(15);
+        }
+        self.queued = 0;
+        self.queue.clear();
+        Ok(())
+    }
+
+    /// No record is set for r any more; all else stays.
+    pub fn clear_set(&mut self) -> Result<(), Refusal> {
+        if !self.in_ranges() {
+            return Err(15);
+        }
+        self.requested = None;
+        Ok(())
+    }
+
+    /// After how many milliseconds a tick does something; none where no tick does.
+    pub fn due(&self, now: u32) -> Result<Option<u32>, Refusal> {
+        if !self.in_ranges() {
+            return Err(15);
+        }
+        Ok(self.good.then(|| left(now, self.t1, T1)))
     }
 
     pub fn turn_key(&mut self, key: u8) -> Result<(), Refusal> {

@@ -1,6 +1,6 @@
-//! The master's end of a line: rules K4, M1 to M18, E1 to E12 and R12 to R16.
+//! The master's end of a line: rules K4, M1 to M19, E1 to E12 and R12 to R16.
 
-use crate::second::clock::run_out;
+use crate::second::clock::{left, run_out};
 use crate::second::desk::{Refusal, ROOM};
 use crate::second::faults::is_on;
 use crate::second::reading::read;
@@ -168,6 +168,19 @@ impl Master {
         self.record = self.poll();
         let bytes = self.send(now);
         (Told::Polled(1), bytes)
+    }
+
+    /// After how many milliseconds a tick does something. It sends nothing, so it wants no room.
+    pub fn due(&self, now: u32) -> Result<Option<u32>, Refusal> {
+        if let Some(refusal) = self.refuses(ROOM) {
+            return Err(refusal);
+        }
+        let after = if self.count == 0 {
+            left(now, self.t0, self.poll_time())
+        } else {
+            left(now, self.t2, T2)
+        };
+        Ok(Some(after))
     }
 
     pub fn hear(&mut self, now: u32, room: usize, frame: &[u8]) -> (Told, Vec<u8>) {
