@@ -5,6 +5,7 @@ pub mod Waiting
 pub mod Answers
 pub mod State
 pub mod Panel
+pub mod Clearing
 pub mod Order
 pub mod Queue
 pub mod Heard

@@ -13,6 +13,7 @@ use Rattle.clock.specs.Clock.{runOut}
 use Rattle.records.specs.Answers.{Fault, good, fails}
 use Rattle.records.specs.Refusals.{no}
 use Rattle.forms.specs.Lines.{lineOf, isKey}
+use Rattle.desk.specs.declared.replying.Wanted.{Wanted}
 use Rattle.desk.specs.declared.replying.Wanted.the-variants.{Is}
 use Rattle.desk.specs.Answers.{Done, done, lost, refused}
 use Rattle.desk.specs.State.{inRanges}
@@ -35,9 +36,13 @@ withQueue d q n = record { line = d .line; good = d .good; last = d .last; t1 = 
 abbrev pub withQueued : Desk → Record → Desk
 withQueued d rec = withQueue d (set (d .queue) (d .queued) (record { rec = rec })) (d .queued + 1)
 
+-- with a record set for r, or none
+abbrev pub withWanted : Desk → Wanted → Desk
+withWanted d wanted = record { line = d .line; good = d .good; last = d .last; t1 = d .t1; kept = d .kept; stored = d .stored; requested = wanted; queued = d .queued; queue = d .queue; key = d .key }
+
 -- with another record set for r
 abbrev pub withRequested : Desk → Record → Desk
-withRequested d rec = record { line = d .line; good = d .good; last = d .last; t1 = d .t1; kept = d .kept; stored = d .stored; requested = Is rec; queued = d .queued; queue = d .queue; key = d .key }
+withRequested d rec = withWanted d (Is rec)
 
 -- with another key position
 abbrev pub withKey : Desk → ℕ → Desk

@@ -1,6 +1,7 @@
-// The desk, the slave's end of a line (rules D1 to D16).
+// The desk, the slave's end of a line (rules D1 to D18).
 pub mod answers;
 pub mod applying;
+pub mod clearing;
 pub mod deciding;
 pub mod fitting;
 pub mod heard;

@@ -3,7 +3,7 @@ ghost use mathlib.Core.Path.{_≡_};
 ghost use Prim.Native.Nat.{_<_};
 ghost use Rattle.records.specs.Answers.{faultOf};
 ghost use Rattle.desk.specs.Answers.{doneOf};
-ghost use Rattle.desk.specs.Panel.{losesLine, notedOf, withQueued, withRequested, recordFault, keyFault, tickOf, queueOf, setOf, keyOf};
+ghost use Rattle.desk.specs.Panel.{losesLine, notedOf, withQueued, withWanted, recordFault, keyFault, tickOf, queueOf, setOf, keyOf};
 use crate::answers::Outcome;
 use crate::state::Desk;
 use crate::state::Step;
@@ -118,9 +118,9 @@ impl Desk {
         }
     }
 
-    // The state with another record set for r.
-    fn with_requested(self, rec: Record) -> Desk
-        ensures { λ r. ⌜ r ≡ withRequested self rec ⌝ }
+    // The state with a record set for r, or none.
+    pub(crate) fn with_wanted(self, wanted: Wanted) -> Desk
+        ensures { λ r. ⌜ r ≡ withWanted self wanted ⌝ }
     {
         let last = self.last;
         let stored = self.stored;
@@ -132,7 +132,7 @@ impl Desk {
             t1: self.t1,
             kept: self.kept,
             stored,
-            requested: Wanted::Is(rec),
+            requested: wanted,
             queued: self.queued,
             queue,
             key: self.key,
@@ -151,7 +151,7 @@ impl Desk {
             };
         }
         Step {
-            desk: self.with_requested(rec),
+            desk: self.with_wanted(Wanted::Is(rec)),
             answer: Outcome::Done,
         }
     }

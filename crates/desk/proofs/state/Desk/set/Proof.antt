@@ -16,7 +16,7 @@ returns-2 : tie.Need-returns-2
 returns-2 c =
     let a = c .before .before .before .before .args in
     let record-check = c .before .before .before .record-check in
-    set-done (a .self) (a .rec) (sym (ap faultOf (c .before .enum-told .given .1)) ∙ record-check .ensures) _ (c .with-requested .ensures)
+    set-done (a .self) (a .rec) (sym (ap faultOf (c .before .enum-told .given .1)) ∙ record-check .ensures) _ (c .with-wanted .ensures)
 
 pub set-spec : {M : Type 1} → statement M
 set-spec = tie.close (tie.spec (λ c κs. search needs) (λ c. search needs) returns (λ c. search needs) (λ c κs. search needs) returns-2)
