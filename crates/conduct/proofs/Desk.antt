@@ -1,4 +1,4 @@
--- The desk under any calls (rules D1 to D16). Assumes nothing.
+-- The desk under any calls (rules D1 to D18). Assumes nothing.
 pub mod Waiting
 pub mod Steps
 pub mod Kept
@@ -10,5 +10,6 @@ pub mod Handled
 pub mod Afterwards
 pub mod Polls
 pub mod Once
+pub mod Cleared
 pub mod Refused
 pub mod Apart

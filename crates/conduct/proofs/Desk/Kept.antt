@@ -24,6 +24,7 @@ use Rattle.desk.specs.Answers.{done, lost}
 use Rattle.desk.specs.Waiting.{waitingFits, keptFits}
 use Rattle.desk.specs.State.{numbersFit, recordsFit, inRanges, fresh, startOf}
 use Rattle.desk.specs.Panel.{losesLine, notedOf, withQueued, withRequested, withKey, tickOf, queueOf, setOf, keyOf}
+use Rattle.desk.specs.Clearing.{withNoneQueued, withNoneSet, clearQueueOf, clearSetOf}
 use Rattle.desk.specs.Queue.{replyTo, popped, takenBy}
 use Rattle.desk.specs.Hearing.{withStored, marked, restarted, faultedOf, repeatedOf, handledOf, hearOf}
 use Rattle.desk.specs.declared.state.Desk.{Desk}
@@ -31,9 +32,9 @@ use Rattle.desk.proofs.Ranges.{Fits, ranges-parts, parts-ranges, noted-ranges, 
 use Rattle.desk.proofs.Answering.{answer-permitted}
 use Rattle.conduct.specs.Desk.Polls.{waiting}
 use Rattle.conduct.proofs.Desk.Waiting.{filled-behind, oldest-taken, every-behind, every-tail}
-use Rattle.conduct.specs.Desk.Calls.{Call, ticks, queues, sets, turns, hears, did, Result, after, run, refusedBy, Fine}
+use Rattle.conduct.specs.Desk.Calls.{Call, ticks, queues, sets, turns, clearsQueue, clearsSet, hears, did, Result, after, run, refusedBy, Fine}
 use Rattle.conduct.specs.Desk.Kept.{Bounds, Never15}
-use Rattle.conduct.proofs.Desk.Steps.{Does, barred, noRoom, ticked, queued, isSet, turned, unmoved, faults, repeats, handled, does}
+use Rattle.conduct.proofs.Desk.Steps.{Does, barred, noRoom, ticked, queued, isSet, turned, emptied, unset, unmoved, faults, repeats, handled, does}
 
 -- what a call keeps: the state is fine behind it, and the line is the same
 pub record Keeps (d e : Desk) : Type 0 where
@@ -104,6 +105,33 @@ module _ (d : Desk) (f : Fine d) where
         fine = record {
           ranged = parts-ranges (withKey d key)
               (record { lined = p .lined; numbered = p .numbered; few = p .few; keyed = k; stocked = p .stocked; wanted = p .wanted; waiting = p .waiting });
+          stores = f .stores;
+          holds = f .holds;
+        };
+        line = refl;
+      }
+
+  emptied-keeps : Keeps d (withNoneQueued d)
+  emptied-keeps =
+      let p = fits in
+      record {
+        fine = record {
+          ranged = parts-ranges (withNoneQueued d)
+              (record { lined = p .lined; numbered = p .numbered; few = omega arith; keyed = p .keyed; stocked = p .stocked; wanted = p .wanted; waiting = refl });
+          stores = f .stores;
+          holds = refl;
+        };
+        line = refl;
+      }
+
+  unset-keeps : Keeps d (withNoneSet d)
+  unfolding wantedFits
+  unset-keeps =
+      let p = fits in
+      record {
+        fine = record {
+          ranged = parts-ranges (withNoneSet d)
+              (record { lined = p .lined; numbered = p .numbered; few = p .few; keyed = p .keyed; stocked = p .stocked; wanted = refl; waiting = p .waiting });
           stores = f .stores;
           holds = f .holds;
         };
@@ -195,6 +223,8 @@ keeps d f call = go call (after d call) (does d (f .ranged) call)
     go call behind (queued {rec} m q) = queued-keeps d f rec m q
     go call behind (isSet {rec} m) = wanted-keeps d f rec m
     go call behind (turned {key} k) = turned-keeps d f key k
+    go call behind emptied = emptied-keeps d f
+    go call behind unset = unset-keeps d f
     go call behind (unmoved {at}) = noted-keeps d f (losesLine d at)
     go call behind (faults {at} n) = noted-keeps d f (losesLine d at)
     go call behind (repeats {at}) = noted-keeps d f (losesLine d at)
@@ -212,6 +242,12 @@ module _ (d : Desk) (f : Fine d) where
 
   pub key-keeps : (key : ℕ) → Keeps d (keyOf d key .0)
   key-keeps key = keeps d f (turns key)
+
+  pub clear-queue-keeps : Keeps d (clearQueueOf d .0)
+  clear-queue-keeps = keeps d f clearsQueue
+
+  pub clear-set-keeps : Keeps d (clearSetOf d .0)
+  clear-set-keeps = keeps d f clearsSet
 
   pub hear-keeps : (at : ℕ) (frame out : List ℕ) → Keeps d (hearOf d at frame out .0)
   hear-keeps at frame out = keeps d f (hears at frame out)
@@ -232,6 +268,8 @@ not-15 d h call = go call (after d call) (does d h call)
     go call behind (queued m l) q = omega arith
     go call behind (isSet m) q = omega arith
     go call behind (turned k) q = omega arith
+    go call behind emptied q = omega arith
+    go call behind unset q = omega arith
     go call behind unmoved q = omega arith
     go call behind (faults n) q = omega arith
     go call behind repeats q = omega arith

@@ -1,5 +1,5 @@
--- Whatever calls are made, each record that was queued is given out once, in order, or still waits (rule D15). Assumes nothing.
-use mathlib.Core.Path.{_≡_, sym, ap, _∙_}
+-- Whatever calls are made, each record that was queued is given out once, in order, or was cleared, or still waits (rules D15, D17). Assumes nothing.
+use mathlib.Core.Path.{_≡_, refl, sym, ap, _∙_}
 use mathlib.Core.Bool.{Bool, true, false}
 use mathlib.Core.List.{List, [], _∷_, _++_, map, append-nil, append-assoc, map-append}
 use Prim.Native.Nat.{ℕ, _<_}
@@ -32,18 +32,18 @@ use Rattle.desk.specs.declared.waiting.Waiting.{Waiting}
 use Rattle.desk.specs.declared.state.Desk.{Desk}
 use Rattle.desk.proofs.Permitted.{reply-allowed}
 use Rattle.desk.proofs.Answering.{oldest-replies}
-use Rattle.conduct.specs.Desk.Calls.{Call, ticks, queues, sets, turns, hears, did, Result, hearing, after, run, Fine}
+use Rattle.conduct.specs.Desk.Calls.{Call, ticks, queues, sets, turns, clearsQueue, clearsSet, hears, Answered, did, Result, hearing, after, run, Fine}
 use Rattle.conduct.specs.Desk.Polls.{waiting, Answers}
-use Rattle.conduct.specs.Desk.Once.{records, queuedIn, givenIn, accepted, given, QueuedOnce}
+use Rattle.conduct.specs.Desk.Once.{records, queuedIn, givenIn, leavesIn, accepted, left, given, NoneClears, EachOnce, QueuedOnce, OnlyGiven}
 use Rattle.conduct.proofs.Desk.Waiting.{filled-behind}
 use Rattle.conduct.proofs.Desk.Steps.{Does, does}
 use Rattle.conduct.proofs.Desk.Steps as s
 use Rattle.conduct.proofs.Desk.Kept.{fits, keeps, start-fine}
 use Rattle.conduct.proofs.Desk.Polls.{polled, takes-oldest, answers-key}
 
--- what waits and what is queued is what is given and what waits then
+-- what waits and what is queued is what leaves and what waits then
 abbrev Balanced : Desk → Call → Result → Type 0
-Balanced d call turn = records d ++ queuedIn call (turn .1) ≡ givenIn (d .line) (turn .1) ++ records (turn .0)
+Balanced d call turn = records d ++ queuedIn call (turn .1) ≡ leavesIn d call (turn .1) ++ records (turn .0)
 
 module _ (d : Desk) (f : Fine d) where
   none-refused : (call : Call) (x : No) → Balanced d call (d, did (Done.refused x))
@@ -51,6 +51,8 @@ module _ (d : Desk) (f : Fine d) where
   none-refused (queues rec) x = append-nil (records d)
   none-refused (sets rec) x = append-nil (records d)
   none-refused (turns position) x = append-nil (records d)
+  none-refused clearsQueue x = append-nil (records d)
+  none-refused clearsSet x = append-nil (records d)
   none-refused (hears at frame out) x = append-nil (records d)
 
   noted-waits : (b : Bool) → records d ++ [] ≡ records (notedOf d b)
@@ -109,23 +111,24 @@ module _ (d : Desk) (f : Fine d) where
       go call turn (s.queued {rec} m q) = one-queued rec q
       go call turn (s.isSet m) = append-nil (records d)
       go call turn (s.turned m) = append-nil (records d)
+      go call turn s.emptied = refl
+      go call turn s.unset = append-nil (records d)
       go call turn (s.unmoved {at}) = noted-waits (losesLine d at)
       go call turn (s.faults {at} n) = noted-waits (losesLine d at)
       go call turn (s.repeats {at}) = noted-waits (losesLine d at)
       go call turn (s.handled {at} {frame} {out} n what l) = handled-balanced (losesLine d at) at n l frame out what
 
--- What waits and what calls queue then is what they give out, and what waits behind them.
-pub each-once : (d : Desk) → Fine d → (calls : List Call) → records d ++ accepted d calls ≡ given d calls ++ records (run d calls)
-each-once d f [] = append-nil (records d)
+pub each-once : EachOnce
+each-once d f [] = sym (append-nil (records d))
 each-once d f (call ∷ calls) =
     let e = after d call .0 in
     let a = queuedIn call (after d call .1) in
-    let g = givenIn (d .line) (after d call .1) in
-    sym (append-assoc (records d) a (accepted e calls))
-    ∙ ap (λ (x : List Record). x ++ accepted e calls) (balanced d f call)
-    ∙ append-assoc g (records e) (accepted e calls)
+    let g = leavesIn d call (after d call .1) in
+    append-assoc g (left e calls) (records (run e calls))
     ∙ ap (λ (x : List Record). g ++ x) (each-once e (keeps d f call .fine) calls)
-    ∙ sym (append-assoc g (given e calls) (records (run e calls)))
+    ∙ sym (append-assoc g (records e) (accepted e calls))
+    ∙ ap (λ (x : List Record). x ++ accepted e calls) (sym (balanced d f call))
+    ∙ append-assoc (records d) a (accepted e calls)
 
 start-empty : (line : ℕ) → isLine line ≡ true → records (startOf line .0) ≡ []
 unfolding startOf
@@ -133,4 +136,17 @@ start-empty line h = rw h
 
 pub queued-once : QueuedOnce
 queued-once line h calls =
-    sym (each-once (startOf line .0) (start-fine line h) calls) ∙ ap (λ (x : List Record). x ++ accepted (startOf line .0) calls) (start-empty line h)
+    each-once (startOf line .0) (start-fine line h) calls ∙ ap (λ (x : List Record). x ++ accepted (startOf line .0) calls) (start-empty line h)
+
+only-leaves : (d : Desk) (call : Call) (answer : Answered) → ¬ (call ≡ clearsQueue) → leavesIn d call answer ≡ givenIn (d .line) answer
+only-leaves d (ticks at) answer n = refl
+only-leaves d (queues rec) answer n = refl
+only-leaves d (sets rec) answer n = refl
+only-leaves d (turns position) answer n = refl
+only-leaves d clearsQueue answer n = absurd (n refl)
+only-leaves d clearsSet answer n = refl
+only-leaves d (hears at frame out) answer n = refl
+
+pub only-given : OnlyGiven
+only-given d [] n = refl
+only-given d (call ∷ calls) n = rw (only-leaves d call (after d call .1) (n .0), only-given (after d call .0) calls (n .1))

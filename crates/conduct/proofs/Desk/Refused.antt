@@ -14,10 +14,11 @@ use Rattle.desk.specs.Answers.{Done, done, lost}
 use Rattle.desk.specs.Heard.{Told}
 use Rattle.desk.specs.State.{inRanges}
 use Rattle.desk.specs.Panel.{losesLine, withQueued, recordFault, faultless, keyFault, tickOf, queueOf, setOf, keyOf}
+use Rattle.desk.specs.Clearing.{clearQueueOf, clearSetOf}
 use Rattle.desk.specs.Hearing.{faultedOf, repeatedOf, handledOf, appliedOf, ruling, heardOf, hearOf}
 use Rattle.desk.specs.declared.state.Desk.{Desk}
 use Rattle.conduct.specs.Desk.Calls.{noted}
-use Rattle.conduct.specs.Desk.Refused.{Unmoved, Unheard, TickRefusedSame, QueueRefusedSame, SetRefusedSame, KeyRefusedSame, HearRefusedSame}
+use Rattle.conduct.specs.Desk.Refused.{Unmoved, Unheard, TickRefusedSame, QueueRefusedSame, SetRefusedSame, KeyRefusedSame, ClearQueueRefusedSame, ClearSetRefusedSame, HearRefusedSame}
 
 unless-fault : (d : Desk) (f : Fault) (s : Desk × Done) → Unmoved d s → Unmoved d (faultless f d s)
 unless-fault d good s k = k
@@ -47,6 +48,19 @@ set-refused-same d rec = unless-fault d (recordFault d rec) _ (λ n. absurd (n r
 pub key-refused-same : KeyRefusedSame
 unfolding keyOf
 key-refused-same d key = unless-fault d (keyFault d key) _ (λ n. absurd (n refl))
+
+-- a call that is done where the state is in its ranges, and refused 15 else
+in-ranges-or-15 : (d e : Desk) (b : Bool) → Unmoved d (cond b (e, done) (d, Done.refused (no 15 0)))
+in-ranges-or-15 d e true n = absurd (n refl)
+in-ranges-or-15 d e false n = refl
+
+pub clear-queue-refused-same : ClearQueueRefusedSame
+unfolding clearQueueOf
+clear-queue-refused-same d = in-ranges-or-15 d _ (inRanges d)
+
+pub clear-set-refused-same : ClearSetRefusedSame
+unfolding clearSetOf
+clear-set-refused-same d = in-ranges-or-15 d _ (inRanges d)
 
 -- a hearing that is settled is not refused
 ruled : (d : Desk) (at : ℕ) (out : List ℕ) (s : Ruling) → Unheard d out (appliedOf (noted d at) (losesLine d at) at s out)

@@ -1,4 +1,4 @@
--- Calls of the desk in any order, with any inputs, and what each can do in its ranges (rules D2 to D8). Assumes nothing.
+-- Calls of the desk in any order, with any inputs, and what each can do in its ranges (rules D2 to D8, D17, D18). Assumes nothing.
 use mathlib.Core.Path.{_≡_, refl, ap, _∙_}
 use mathlib.Core.Bool.{Bool, true, false, cond}
 use mathlib.Core.List.{List}
@@ -26,10 +26,11 @@ use Rattle.desk.specs.Answers.{Done, done, lost}
 use Rattle.desk.specs.Heard.{Told, silent}
 use Rattle.desk.specs.State.{inRanges}
 use Rattle.desk.specs.Panel.{losesLine, withQueued, withRequested, withKey, recordFault, faultless, keyFault, tickOf, queueOf, setOf, keyOf}
+use Rattle.desk.specs.Clearing.{withNoneQueued, withNoneSet, clearQueueOf, clearSetOf}
 use Rattle.desk.specs.Queue.{replyTo}
 use Rattle.desk.specs.Hearing.{faultedOf, repeatedOf, handledOf, appliedOf, ruling, heardOf, hearOf}
 use Rattle.desk.specs.declared.state.Desk.{Desk}
-use Rattle.conduct.specs.Desk.Calls.{Call, ticks, queues, sets, turns, hears, did, heard, Result, saying, hearing, after, noted}
+use Rattle.conduct.specs.Desk.Calls.{Call, ticks, queues, sets, turns, clearsQueue, clearsSet, hears, did, heard, Result, saying, hearing, after, noted}
 
 -- two answers of different kinds are never equal
 pub never : {A : Type 0} → _≡_ {A = ℕ} 0 1 → A
@@ -45,6 +46,8 @@ pub data Does (d : Desk) : Call → Result → Type 0 where
   queued : {rec : Record} → mayReply (d .line) rec ≡ true → d .queued < 8 → Does d (queues rec) (withQueued d rec, did done)
   isSet : {rec : Record} → mayReply (d .line) rec ≡ true → Does d (sets rec) (withRequested d rec, did done)
   turned : {key : ℕ} → keyFits (d .line) key ≡ true → Does d (turns key) (withKey d key, did done)
+  emptied : Does d clearsQueue (withNoneQueued d, did done)
+  unset : Does d clearsSet (withNoneSet d, did done)
   -- a hearing by each rule
   unmoved : {at : ℕ} {frame out : List ℕ} {x : No} → Does d (hears at frame out) (noted d at, heard (silent (losesLine d at) x) out)
   faults : {at : ℕ} {frame out : List ℕ} (n : ℕ) → Does d (hears at frame out) (hearing (faultedOf (noted d at) (losesLine d at) n out))
@@ -115,7 +118,7 @@ module _ (d : Desk) (h : inRanges d ≡ true) where
   applies at frame out (r.handle k what) n = handled k what n
 
   pub does : (call : Call) → Does d call (after d call)
-  unfolding tickOf queueOf setOf keyOf hearOf heardOf
+  unfolding tickOf queueOf setOf keyOf clearQueueOf clearSetOf hearOf heardOf
   does (ticks at) = rw h ticked
   does (queues rec) =
       guard (Does d (queues rec)) d _ (recordFault d rec)
@@ -131,6 +134,8 @@ module _ (d : Desk) (h : inRanges d ≡ true) where
       guard (Does d (turns key)) d _ (keyFault d key)
       (λ x e. barred (key-number d h key x e))
       (λ e. turned (key-fits d h key e))
+  does clearsQueue = rw h emptied
+  does clearsSet = rw h unset
   does (hears at frame out) =
       rw h
       (on-test (leb longest (length out))

@@ -36,7 +36,7 @@ use Rattle.desk.specs.declared.state.Desk.{Desk}
 use Rattle.desk.proofs.Answering.{oldest-replies, answer-permitted}
 use Rattle.conduct.specs.Desk.Calls.{Call, hears, heard, Result, after, run, noted, Fine}
 use Rattle.conduct.specs.Desk.Stored.{Holding, StoredTelegram, StoredAsSent}
-use Rattle.conduct.proofs.Desk.Steps.{never, Does, barred, noRoom, ticked, queued, isSet, turned, unmoved, faults, repeats, handled, does}
+use Rattle.conduct.proofs.Desk.Steps.{never, Does, barred, noRoom, ticked, queued, isSet, turned, emptied, unset, unmoved, faults, repeats, handled, does}
 use Rattle.conduct.proofs.Desk.Kept.{fits, noted-keeps, replied-keeps, keeps, runs-keep, start-fine, start-line}
 
 -- where the line has a stored answer, it is such with the last number taken
@@ -117,6 +117,8 @@ holds-step d f k call = go call (after d call) (does d (f .ranged) call)
     go call turn (queued m q) = k
     go call turn (isSet m) = k
     go call turn (turned m) = k
+    go call turn emptied = k
+    go call turn unset = k
     go call turn (unmoved {at}) = noted-holds d (losesLine d at) k
     go call turn (faults {at} n) = noted-holds d (losesLine d at) k
     go call turn (repeats {at}) = noted-holds d (losesLine d at) k
@@ -149,6 +151,8 @@ stored-as-sent d f at frame out noting origin n e =
     go call turn new (queued m l) q = never (cc)
     go call turn new (isSet m) q = never (cc)
     go call turn new (turned m) q = never (cc)
+    go call turn new emptied q = never (cc)
+    go call turn new unset q = never (cc)
     go call turn new unmoved q = never (cc)
     go call turn new (faults k) q = never (cc)
     go call turn new repeats q = never (cc)

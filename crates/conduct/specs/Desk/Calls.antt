@@ -1,4 +1,4 @@
--- Calls of the desk in any order, with any inputs (rules D2 to D8). Assumes nothing.
+-- Calls of the desk in any order, with any inputs (rules D2 to D8, D17, D18). Assumes nothing.
 use mathlib.Core.Path.{_≡_}
 use mathlib.Core.Bool.{true}
 use mathlib.Core.List.{List, [], _∷_}
@@ -12,6 +12,7 @@ use Rattle.desk.specs.Answers as d
 use Rattle.desk.specs.Heard as h
 use Rattle.desk.specs.State.{inRanges}
 use Rattle.desk.specs.Panel.{losesLine, notedOf, tickOf, queueOf, setOf, keyOf}
+use Rattle.desk.specs.Clearing.{clearQueueOf, clearSetOf}
 use Rattle.desk.specs.Hearing.{Hearing, hearOf}
 use Rattle.desk.specs.declared.state.Desk.{Desk}
 
@@ -21,6 +22,8 @@ pub data Call : Type 0 where
   queues : Record → Call
   sets : Record → Call
   turns : ℕ → Call
+  clearsQueue : Call
+  clearsSet : Call
   hears : ℕ → List ℕ → List ℕ → Call
 
 -- what a call answers: one that hears nothing, and a hearing with its output
@@ -44,6 +47,8 @@ after d (ticks at) = saying (tickOf d at)
 after d (queues rec) = saying (queueOf d rec)
 after d (sets rec) = saying (setOf d rec)
 after d (turns key) = saying (keyOf d key)
+after d clearsQueue = saying (clearQueueOf d)
+after d clearsSet = saying (clearSetOf d)
 after d (hears at frame out) = hearing (hearOf d at frame out)
 
 -- a state behind calls, one after the other

@@ -1,4 +1,4 @@
--- Whatever calls are made, each record that was queued is given out once, in order, or still waits (rule D15). Assumes nothing.
+-- Whatever calls are made, each record that was queued is given out once, in order, or was cleared, or still waits (rules D15, D17). Assumes nothing.
 use mathlib.Core.Path.{_≡_}
 use mathlib.Core.Bool.{true}
 use mathlib.Core.List.{List, [], _∷_, _++_, map}
@@ -16,7 +16,7 @@ use Rattle.desk.specs.Heard as h
 use Rattle.desk.specs.State.{startOf}
 use Rattle.desk.specs.declared.waiting.Waiting.{Waiting}
 use Rattle.desk.specs.declared.state.Desk.{Desk}
-use Rattle.conduct.specs.Desk.Calls.{Call, ticks, queues, sets, turns, hears, Answered, did, heard, after, run}
+use Rattle.conduct.specs.Desk.Calls.{Call, ticks, queues, sets, turns, clearsQueue, clearsSet, hears, Answered, did, heard, after, run, Fine}
 use Rattle.conduct.specs.Desk.Polls.{waiting}
 
 -- the records that wait, the oldest first
@@ -32,6 +32,8 @@ queuedIn (queues rec) (did (d.refused x)) = []
 queuedIn (queues rec) (heard told out) = []
 queuedIn (sets rec) answer = []
 queuedIn (turns position) answer = []
+queuedIn clearsQueue answer = []
+queuedIn clearsSet answer = []
 queuedIn (hears at frame out) answer = []
 
 -- the record that bytes read as
@@ -57,17 +59,48 @@ givenIn line (heard (fault noting value n) out) = []
 givenIn line (heard (repeat n) out) = []
 givenIn line (heard (handled noting origin n) out) = givenBy line origin (take n out)
 
--- the records that calls queued, and those that they gave out from the queue, in order
+-- the records that leave the queue by a call: all that wait by a clearing that is done, the one that it gives out by any other
+abbrev pub leavesIn : Desk → Call → Answered → List Record
+leavesIn desk clearsQueue (did done) = records desk
+leavesIn desk clearsQueue (did lost) = []
+leavesIn desk clearsQueue (did (d.refused x)) = []
+leavesIn desk clearsQueue (heard told out) = []
+leavesIn desk (ticks at) answer = givenIn (desk .line) answer
+leavesIn desk (queues rec) answer = givenIn (desk .line) answer
+leavesIn desk (sets rec) answer = givenIn (desk .line) answer
+leavesIn desk (turns position) answer = givenIn (desk .line) answer
+leavesIn desk clearsSet answer = givenIn (desk .line) answer
+leavesIn desk (hears at frame out) answer = givenIn (desk .line) answer
+
+-- the records that calls queued, those that left the queue by them, and those that they gave out from it, in order
 abbrev pub accepted : Desk → List Call → List Record
 accepted d [] = []
 accepted d (call ∷ calls) = queuedIn call (after d call .1) ++ accepted (after d call .0) calls
+
+abbrev pub left : Desk → List Call → List Record
+left d [] = []
+left d (call ∷ calls) = leavesIn d call (after d call .1) ++ left (after d call .0) calls
 
 abbrev pub given : Desk → List Call → List Record
 given d [] = []
 given d (call ∷ calls) = givenIn (d .line) (after d call .1) ++ given (after d call .0) calls
 
--- from the start, the records given out, then those that still wait, are the records queued, each once and in order
+-- the records that left the queue, each given out or cleared, then those that wait behind the calls, are those that waited before them and
+-- then those that they queued, each once and in order
+abbrev pub EachOnce : Type 0
+EachOnce = (d : Desk) → Fine d → (calls : List Call) → left d calls ++ records (run d calls) ≡ records d ++ accepted d calls
+
+-- from the start, where none waits
 abbrev pub QueuedOnce : Type 0
 QueuedOnce =
     (line : ℕ) → isLine line ≡ true → (calls : List Call)
-    → given (startOf line .0) calls ++ records (run (startOf line .0) calls) ≡ accepted (startOf line .0) calls
+    → left (startOf line .0) calls ++ records (run (startOf line .0) calls) ≡ accepted (startOf line .0) calls
+
+-- none of these calls clears the queue
+abbrev pub NoneClears : List Call → Type 0
+NoneClears [] = Unit {0}
+NoneClears (call ∷ calls) = ¬ (call ≡ clearsQueue) × NoneClears calls
+
+-- then the records given out are all that left it
+abbrev pub OnlyGiven : Type 0
+OnlyGiven = (d : Desk) (calls : List Call) → NoneClears calls → left d calls ≡ given d calls

@@ -5,6 +5,7 @@ use Prim.Native.Nat.{ℕ}
 use Rattle.records.specs.declared.records.Record.{Record}
 use Rattle.desk.specs.Answers.{Done}
 use Rattle.desk.specs.Panel.{tickOf, queueOf, setOf, keyOf}
+use Rattle.desk.specs.Clearing.{clearQueueOf, clearSetOf}
 use Rattle.desk.specs.Hearing.{Hearing, hearOf}
 use Rattle.desk.specs.declared.state.Desk.{Desk}
 use Rattle.conduct.specs.Desk.Calls.{did, heard, refusedBy}
@@ -28,6 +29,12 @@ SetRefusedSame = (d : Desk) (rec : Record) → Unmoved d (setOf d rec)
 
 abbrev pub KeyRefusedSame : Type 0
 KeyRefusedSame = (d : Desk) (key : ℕ) → Unmoved d (keyOf d key)
+
+abbrev pub ClearQueueRefusedSame : Type 0
+ClearQueueRefusedSame = (d : Desk) → Unmoved d (clearQueueOf d)
+
+abbrev pub ClearSetRefusedSame : Type 0
+ClearSetRefusedSame = (d : Desk) → Unmoved d (clearSetOf d)
 
 abbrev pub HearRefusedSame : Type 0
 HearRefusedSame = (d : Desk) (at : ℕ) (frame out : List ℕ) → Unheard d out (hearOf d at frame out)
