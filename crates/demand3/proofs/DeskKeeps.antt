@@ -27,6 +27,7 @@ use Rattle.conduct.proofs.Master.Calls.{rejects}
 use Rattle.desk.specs.Answers.{Done, done, lost}
 use Rattle.desk.specs.State.{inRanges, storedOf, startOf}
 use Rattle.desk.specs.Panel.{losesLine, notedOf, faultless, recordFault, keyFault, withQueued, tickOf, queueOf, setOf, keyOf}
+use Rattle.desk.specs.Clearing.{clearQueueOf, clearSetOf}
 use Rattle.desk.specs.Queue.{replyTo}
 use Rattle.desk.specs.Hearing.{Hearing, faultedOf, repeatedOf, handledOf, appliedOf, ruling, heardOf, hearOf}
 use Rattle.desk.specs.declared.state.Desk.{Desk}
@@ -35,7 +36,7 @@ use Rattle.conduct.proofs.Desk.Stored.{reply-sent}
 use Rattle.conduct.proofs.Desk.Kept as k
 use Rattle.conduct.specs.Desk.Calls as c
 use Rattle.protocol.specs.Ends.{Said}
-use Rattle.demand3.specs.Ours.{lostIn, saidOf, isLost, Panel, queues, sets, turns, panelOf, FromSlave}
+use Rattle.demand3.specs.Ours.{lostIn, saidOf, isLost, Panel, queues, sets, turns, clearsQueue, clearsSet, panelOf, FromSlave}
 use Rattle.protocol.specs.Rules.{Reading, DView, First, DHears, frame, view}
 use Rattle.demand3.proofs.Numbers.{isOne, differ-other, read}
 use Rattle.demand3.proofs.Settled.{Settled, settled}
@@ -178,15 +179,17 @@ module _ (line : ℕ) (d : Desk) (i : Fine line d) where
   unseen good step e = e
   unseen (fails x) step e = refl
 
-  queue-unseen : (b : Bool) (rec : Record) (told : Done) → dview (cond {A = Desk × Done} b (withQueued d rec, done) (d, told) .0) ≡ dview d
-  queue-unseen true rec told = refl
-  queue-unseen false rec told = refl
+  either-unseen : (b : Bool) (e : Desk) (told : Done) → dview e ≡ dview d → dview (cond {A = Desk × Done} b (e, done) (d, told) .0) ≡ dview d
+  either-unseen true e told q = q
+  either-unseen false e told q = refl
 
   pub panel-lawful : (a : Panel) → Fine line (panelOf d a) × (dview (panelOf d a) ≡ dview d)
-  unfolding queueOf setOf keyOf
-  panel-lawful (queues rec) = (keeps-fine i (k.queue-keeps d (i .fine) rec), unseen (recordFault d rec) _ (queue-unseen (ltb (d .queued) 8) rec _))
+  unfolding queueOf setOf keyOf clearQueueOf clearSetOf
+  panel-lawful (queues rec) = (keeps-fine i (k.queue-keeps d (i .fine) rec), unseen (recordFault d rec) _ (either-unseen (ltb (d .queued) 8) (withQueued d rec) _ refl))
   panel-lawful (sets rec) = (keeps-fine i (k.set-keeps d (i .fine) rec), unseen (recordFault d rec) _ refl)
   panel-lawful (turns key) = (keeps-fine i (k.key-keeps d (i .fine) key), unseen (keyFault d key) _ refl)
+  panel-lawful clearsQueue = (keeps-fine i (k.clear-queue-keeps d (i .fine)), either-unseen (inRanges d) _ _ refl)
+  panel-lawful clearsSet = (keeps-fine i (k.clear-set-keeps d (i .fine)), either-unseen (inRanges d) _ _ refl)
 
 pub start-lawful : (line : ℕ) → isLine line ≡ true → Fine line (startOf line .0) × ((l : Bool) × (a : List ℕ) × (dview (startOf line .0) ≡ view false l a))
 unfolding startOf

@@ -17,13 +17,14 @@ use Rattle.desk.specs.Deciding.{Ruling, silent, fault, repeat, handle}
 use Rattle.desk.specs.Answers.{Done, done, lost}
 use Rattle.desk.specs.State.{inRanges}
 use Rattle.desk.specs.Panel.{t1Limit, losesLine, notedOf, faultless, recordFault, keyFault, withQueued, tickOf, queueOf, setOf, keyOf}
+use Rattle.desk.specs.Clearing.{clearQueueOf, clearSetOf}
 use Rattle.desk.specs.Hearing.{Hearing, faultedOf, repeatedOf, handledOf, appliedOf, ruling, heardOf, hearOf}
 use Rattle.desk.specs.declared.state.Desk.{Desk}
 use Rattle.master.specs.State.{isFree}
 use Rattle.master.specs.declared.state.Master.{Master}
 use Rattle.master.proofs.Ranges.{counted}
 use Rattle.protocol.specs.Ends.{Said}
-use Rattle.demand3.specs.Ours.{lostIn, saidOf, isLost, Panel, queues, sets, turns, panelOf}
+use Rattle.demand3.specs.Ours.{lostIn, saidOf, isLost, Panel, queues, sets, turns, clearsQueue, clearsSet, panelOf}
 use Rattle.demand3.proofs.MasterKeeps as mk
 use Rattle.demand3.proofs.DeskKeeps as dk
 use Rattle.demand3.proofs.LiveSteps.{Few, Starts, same, anew}
@@ -82,15 +83,17 @@ module _ (d : Desk) where
   unturned good step e = e
   unturned (fails x) step e = refl
 
-  queued : (b : Bool) (rec : Record) (told : Done) → cond {A = Desk × Done} b (withQueued d rec, done) (d, told) .0 .t1 ≡ d .t1
-  queued true rec told = refl
-  queued false rec told = refl
+  either : (b : Bool) (e : Desk) (told : Done) → e .t1 ≡ d .t1 → cond {A = Desk × Done} b (e, done) (d, told) .0 .t1 ≡ d .t1
+  either true e told q = q
+  either false e told q = refl
 
   pub panel-t1 : (a : Panel) → panelOf d a .t1 ≡ d .t1
-  unfolding queueOf setOf keyOf
-  panel-t1 (queues rec) = unturned (recordFault d rec) _ (queued (ltb (d .queued) 8) rec _)
+  unfolding queueOf setOf keyOf clearQueueOf clearSetOf
+  panel-t1 (queues rec) = unturned (recordFault d rec) _ (either (ltb (d .queued) 8) (withQueued d rec) _ refl)
   panel-t1 (sets rec) = unturned (recordFault d rec) _ refl
   panel-t1 (turns k) = unturned (keyFault d k) _ refl
+  panel-t1 clearsQueue = either (inRanges d) _ _ refl
+  panel-t1 clearsSet = either (inRanges d) _ _ refl
 
 pub few : (line : ℕ) (m : Master) → mk.Fine line m → Few (mk.mview m)
 few line m i = on-test (isFree m) (λ e. rw e tt) (λ e. rw e (omega (arith, counted m (i .ranged) e)))

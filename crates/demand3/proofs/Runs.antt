@@ -26,6 +26,7 @@ use Rattle.master.specs.Sending.{sendingOf, failedOf, offerFault, offerOf, poll
 use Rattle.master.specs.Hearing.{hearOf}
 use Rattle.desk.specs.State as s
 use Rattle.desk.specs.Panel as p
+use Rattle.desk.specs.Clearing as c
 use Rattle.desk.specs.Hearing as h
 use Rattle.demand3.specs.Runs.{Runs, AllowedRuns}
 use Rattle.demand3.specs.Outside.{OutsideRuns, NotAllowed}
@@ -37,11 +38,11 @@ unfolding numeralOn numberOn leftOf inSet total checksumOf checkText lineOf form
     permitted permitsValue permitsValues countText summedOf fieldOf frameOf f.bodyOf frameChecks dataOf outside wrongLetter badValue valuesIn
     misshapen fieldChecks recordIn checks readingOf telegramOf runOut operationFits sendable fitsFree inRanges callFault startOf t0Of reduces operationAfter pollOf isFailure answersTo
     permittedAnswer answeredBy judgeOf sentOf sendingOf failedOf offerFault offerOf pollingOf waitingOf tickOf hearOf u.mayReply u.keyFits k.keptFits
-    u.wantedFits s.numbersFit s.recordsFit s.inRanges s.startOf p.losesLine p.notedOf p.tickOf p.recordFault p.queueOf p.setOf p.keyFault p.keyOf
+    u.wantedFits s.numbersFit s.recordsFit s.inRanges s.startOf p.losesLine p.notedOf p.tickOf p.recordFault p.queueOf p.setOf p.keyFault p.keyOf c.clearQueueOf
     r.repeats r.matterIn r.goodFrame r.badFrame r.rulingIn q.keyOn q.polledOf h.faultedOf h.repeatedOf h.handledOf h.heardOf h.hearOf
 computed = (
-  ((refl, (refl, (refl, (refl, (refl, (refl, (refl, (refl, tt)))))))), (refl, (refl, tt))),
-  ((tt, (tt, (tt, (tt, (tt, (tt, (tt, (tt, (tt, tt))))))))), λ q. q),
+  ((refl, (refl, (refl, (refl, (refl, (refl, (refl, (refl, (refl, tt))))))))), (refl, (refl, tt))),
+  ((tt, (tt, (tt, (tt, (tt, (tt, (tt, (tt, (tt, (tt, tt)))))))))), λ q. q),
   (refl, refl, refl, refl, refl),
   (tt, ((λ q. q), ((λ q. q), ((λ q. q), ((λ q. q), tt))))),
   (((tt, tt, tt), refl), tt, tt, ((tt, tt, tt), refl), tt),

@@ -31,15 +31,18 @@ unlost q = q
 
 pub promises : Promises
 promises =
-    promised keptRuns (refl, (refl, (refl, (refl, (refl, (refl, (refl, (refl, tt)))))))) (runs .0) (
+    promised keptRuns (refl, (refl, (refl, (refl, (refl, (refl, (refl, (refl, (refl, tt))))))))) (runs .0) (
       (unlost, (unlost, (unlost, (unlost, (unlost, (unlost, tt)))))),
       (
         (unlost, (unlost, (unlost, tt))),
         (
-          (unlost, (unlost, tt)),
+          (unlost, (unlost, (unlost, tt))),
           (
-            (unlost, (unlost, (unlost, tt))),
-            ((unlost, (unlost, (unlost, tt))), ((unlost, (unlost, (unlost, (unlost, tt)))), ((unlost, (unlost, tt)), ((unlost, (unlost, tt)), tt)))),
+            (unlost, (unlost, tt)),
+            (
+              (unlost, (unlost, (unlost, tt))),
+              ((unlost, (unlost, (unlost, tt))), ((unlost, (unlost, (unlost, (unlost, tt)))), ((unlost, (unlost, tt)), ((unlost, (unlost, tt)), tt)))),
+            ),
           ),
         ),
       ),

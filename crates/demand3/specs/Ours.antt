@@ -21,6 +21,7 @@ use Rattle.desk.specs.Answers as o
 use Rattle.desk.specs.Heard as a
 use Rattle.desk.specs.State as s
 use Rattle.desk.specs.Panel as p
+use Rattle.desk.specs.Clearing as c
 use Rattle.desk.specs.Hearing as h
 use Rattle.protocol.specs.Ends.{Did, Said, MOut, DNote, DOut, Ends, first, resent, got, gave, silent, says, handles}
 use Rattle.protocol.specs.Ends as e
@@ -68,16 +69,20 @@ isLost (o.refused x) = false
 abbrev pub tickingOf : Desk × o.Done → DNote Desk
 tickingOf step = record { d = step .0; noted = isLost (step .1) }
 
--- a call of the panel: it queues a record, sets one for r, or sets the key position
+-- a call of the panel: it queues a record, sets one for r, sets the key position, clears the queue, or takes back the record set for r
 pub data Panel : Type 0 where
   queues : Record → Panel
   sets : Record → Panel
   turns : ℕ → Panel
+  clearsQueue : Panel
+  clearsSet : Panel
 
 abbrev pub panelOf : Desk → Panel → Desk
 panelOf d (queues rec) = p.queueOf d rec .0
 panelOf d (sets rec) = p.setOf d rec .0
 panelOf d (turns key) = p.keyOf d key .0
+panelOf d clearsQueue = c.clearQueueOf d .0
+panelOf d clearsSet = c.clearSetOf d .0
 
 -- checks 1 to 7 refuse these bytes
 abbrev pub isFault : Fault → Bool

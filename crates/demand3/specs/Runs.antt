@@ -13,7 +13,7 @@ use Rattle.records.specs.declared.records.Record.{Record}
 use Rattle.records.specs.declared.records.Record.the-variants.{Idling, Position, RadioData, Stop, Train, TrainData}
 use Rattle.protocol.specs.History.{Tel, Hist, sent, again, noted, handled, over, answered, gaveUp}
 use Rattle.protocol.specs.Ends.{Ev, start, ran, offer, mtick, dtick, act, lost, whole, spoilt}
-use Rattle.demand3.specs.Ours.{ours, queues, sets, turns}
+use Rattle.demand3.specs.Ours.{ours, queues, sets, turns, clearsQueue}
 use Rattle.demand3.specs.Allowed.{allowed}
 
 -- 66 bytes of room
@@ -97,6 +97,19 @@ polled = record {
       whole 12020 room ∷ mtick 22000 room ∷ whole 22010 room ∷ whole 22020 room ∷ [];
   history =
       answered nextPoll nextRadioData 1 ∷ over nextPoll ∷ handled nextPoll nextRadioData ∷ sent nextPoll ∷
+      answered poll radioData 2 ∷ over poll ∷ again poll ∷ over poll ∷ handled poll radioData ∷ sent poll ∷ [];
+}
+
+-- The panel clears the queue on line 3 before the master asks again: the record that was given out arrives, and A at the next t.
+abbrev pub cleared : Run
+cleared = record {
+  line = 3;
+  from = 0;
+  events =
+      act (queues (radio 1234)) ∷ act (queues (radio 4321)) ∷ mtick 10000 room ∷ whole 10010 room ∷ lost ∷ act clearsQueue ∷ mtick 12000 room ∷
+      whole 12010 room ∷ whole 12020 room ∷ mtick 22000 room ∷ whole 22010 room ∷ whole 22020 room ∷ [];
+  history =
+      answered nextPoll nextApproved 1 ∷ over nextPoll ∷ handled nextPoll nextApproved ∷ sent nextPoll ∷
       answered poll radioData 2 ∷ over poll ∷ again poll ∷ over poll ∷ handled poll radioData ∷ sent poll ∷ [];
 }
 
@@ -215,7 +228,7 @@ later = record {
 
 -- runs in which the supposition and the promise hold, and runs in which they fail
 abbrev pub keptRuns : List Run
-keptRuns = usual ∷ polled ∷ inOperation ∷ stopAsked ∷ throughZero ∷ stale ∷ cramped ∷ withheld ∷ []
+keptRuns = usual ∷ polled ∷ cleared ∷ inOperation ∷ stopAsked ∷ throughZero ∷ stale ∷ cramped ∷ withheld ∷ []
 
 abbrev pub brokenRuns : List Run
 brokenRuns = twice ∷ later ∷ []
@@ -226,4 +239,4 @@ Runs = All Happens keptRuns × All Happens brokenRuns
 
 -- Each is a run of the demand's line, but for `withheld`.
 abbrev pub AllowedRuns : Type 0
-AllowedRuns = All Allowed (usual ∷ polled ∷ inOperation ∷ stopAsked ∷ throughZero ∷ stale ∷ cramped ∷ brokenRuns) × (Allowed withheld → ⊥)
+AllowedRuns = All Allowed (usual ∷ polled ∷ cleared ∷ inOperation ∷ stopAsked ∷ throughZero ∷ stale ∷ cramped ∷ brokenRuns) × (Allowed withheld → ⊥)
