@@ -12,8 +12,8 @@ use blocks::masters::MASTER_LENGTH;
 use blocks::record::RECORD_LENGTH;
 use characters::marks::LONGEST;
 
-// How many bytes a result has: eight fields of four and two of eight.
-const RESULT_SIZE: usize = 48;
+// How many bytes a result has: sixteen fields of four and two of eight.
+const RESULT_SIZE: usize = 80;
 
 #[no_mangle]
 pub extern "C" fn in656_result_size() -> usize

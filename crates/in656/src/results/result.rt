@@ -6,6 +6,19 @@ use records::refusals::Refusal;
 use records::refusals::number_of;
 use records::refusals::place_of;
 
+// The last fields of the header's structure, in their order: later libraries of the edition fill them.
+#[repr(C)]
+pub struct Later {
+    pub sum: u32,
+    pub found: u32,
+    pub unsent: u32,
+    pub reserved1: u32,
+    pub reserved2: u32,
+    pub reserved3: u32,
+    pub reserved4: u32,
+    pub reserved5: u32,
+}
+
 // The fields of the header's structure, in their order; filled is its `record`.
 #[repr(C)]
 pub struct In656Result {
@@ -19,6 +32,7 @@ pub struct In656Result {
     pub count: u32,
     pub lost: u32,
     pub filled: u32,
+    pub later: Later,
 }
 
 // An outcome and more of it.
@@ -36,6 +50,16 @@ pub(crate) fn say(outcome: u32, detail: u32) -> In656Result
         count: 0,
         lost: 0,
         filled: 0,
+        later: Later {
+            sum: 0,
+            found: 0,
+            unsent: 0,
+            reserved1: 0,
+            reserved2: 0,
+            reserved3: 0,
+            reserved4: 0,
+            reserved5: 0,
+        },
     }
 }
 

@@ -21,4 +21,4 @@ of-answer-spec =
     (λ c. rw (c .before .before .before .before .answer3 .given .1, c .with-count2 .ensures, c .before .with-record .ensures, c .before .before .say3 .ensures))
     (λ c. rw (c .before .before .before .answer4 .given .1, c .with-count3 .ensures, c .before .of-other .ensures))
     (λ c. rw (c .before .before .before .before .answer5 .given .1, c .with-count4 .ensures, c .before .say4 .ensures, c .before .before .cause-detail .ensures))
-    (λ c. search needs))
+    (λ c. rw (c .before .before .answer6 .given .1, c .of-reason .ensures)))
