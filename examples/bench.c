@@ -72,9 +72,10 @@ static int done(struct bench *bench, in656_result r, size_t heard)
 
 static int offer(struct bench *bench, const char *row)
 {
+  char text[SHOWN];
   in656_result r;
-  if (!record_said(row, bench->record)) {
-    show_line(day_ms(), WHO, "typed", "no record: type it as t t");
+  if (!record_said(text, LINE, row, bench->record)) {
+    show_line(day_ms(), WHO, "typed", text);
     bench->failures++;
     return 0;
   }
@@ -94,35 +95,47 @@ static int hear(struct bench *bench, size_t length)
   return done(bench, r, length);
 }
 
+/* How long poll may sleep, in milliseconds: until a tick does something. Nothing is being sent meanwhile, so the master's clock runs as any other. */
+static int rest(const struct bench *bench)
+{
+  in656_result due = in656_master_due(bench->master, sizeof bench->master, master_ms(bench));
+  return due.outcome == IN656_DUE_AFTER ? (int)due.detail : -1;
+}
+
+/* Sleeps until something comes or is due, and takes it. 0, or -1 with errno if the line is gone. */
+static int turn(struct bench *bench, struct row *row, int *keyboard)
+{
+  struct pollfd ready[2] = {{bench->line.fd, POLLIN, 0}, {bench->waits ? -1 : *keyboard, POLLIN, 0}};
+  size_t length;
+  int typed = 0, heard = 0;
+  if (poll(ready, 2, rest(bench)) < 0 && errno != EINTR)
+    return -1;
+  while (ready[0].revents != 0 && (heard = serial_hear(&bench->line, &length)) == 1)
+    if (hear(bench, length) != 0)
+      return -1;
+  if (heard < 0)
+    return -1;
+  if (ready[1].revents != 0)
+    typed = row_typed(row, *keyboard);
+  if (typed == 1 && offer(bench, row->text) != 0)
+    return -1;
+  if (typed < 0)
+    *keyboard = -1; /* poll leaves this one out from now on */
+  return tick(bench);
+}
+
 /* Runs until each row was sent and ended (0), or the line is gone (-1, with errno). */
 static int run(struct bench *bench, char **rows, int count)
 {
   struct row row = {"", 0};
-  int keyboard = count > 0 ? -1 : STDIN_FILENO, next = 0;
-  for (;;) {
-    struct pollfd ready[2] = {{bench->line.fd, POLLIN, 0}, {bench->waits ? -1 : keyboard, POLLIN, 0}};
-    size_t length;
-    int typed = 0, heard = 0;
-    if (!bench->waits && next == count && count > 0)
-      return 0;
-    if (!bench->waits && next < count && offer(bench, rows[next++]) != 0)
-      return -1;
-    if (poll(ready, 2, 10) < 0 && errno != EINTR)
-      return -1;
-    while (ready[0].revents != 0 && (heard = serial_hear(&bench->line, &length)) == 1)
-      if (hear(bench, length) != 0)
-        return -1;
-    if (heard < 0)
-      return -1;
-    if (ready[1].revents != 0)
-      typed = row_typed(&row, keyboard);
-    if (typed == 1 && offer(bench, row.text) != 0)
-      return -1;
-    if (typed < 0)
-      keyboard = -1; /* poll leaves this one out from now on */
-    if (tick(bench) != 0)
-      return -1;
+  int keyboard = count > 0 ? -1 : STDIN_FILENO, next = 0, failed = 0;
+  while (failed == 0 && (bench->waits || next < count || count == 0)) {
+    if (!bench->waits && next < count)
+      failed = offer(bench, rows[next++]);
+    else
+      failed = turn(bench, &row, &keyboard);
   }
+  return failed;
 }
 
 int main(int argc, char **argv)

@@ -6,18 +6,18 @@
 static uint8_t desk[IN656_DESK_LENGTH], master[IN656_MASTER_LENGTH];
 static uint8_t record[IN656_RECORD_LENGTH], out[IN656_LONGEST], frame[IN656_LONGEST];
 
-/* Fills the record block with a type and up to four values. */
-static void fill(char type, uint32_t a, uint32_t b, uint32_t c, uint32_t d) {
-  const uint32_t values[4] = {a, b, c, d};
-  memset(record, 0, sizeof record);
-  record[IN656_RECORD_TYPE_AT] = (uint8_t)type;
-  for (int i = 0; i < 16; i++) record[IN656_RECORD_VALUES_AT + i] = (uint8_t)(values[i / 4] >> (24 - 8 * (i % 4)));
+/* Fills the record block with a type, its values still 0. */
+static void fill(char type) {
+  in656_record(IN656_LINE_ATC_TC, (uint8_t)type, 0, record, sizeof record);
 }
 
-/* A value of the record block. */
-static unsigned long value(size_t i) {
-  const uint8_t *at = record + IN656_RECORD_VALUES_AT + 4 * i;
-  return (unsigned long)at[0] << 24 | (unsigned long)at[1] << 16 | (unsigned long)at[2] << 8 | at[3];
+/* Puts a value into the record block by its packet's letter, and gives one. */
+static void put(char letter, uint32_t value) {
+  in656_put_value(IN656_LINE_ATC_TC, record, sizeof record, (uint8_t)letter, value);
+}
+
+static unsigned value(char letter) {
+  return (unsigned)in656_value(IN656_LINE_ATC_TC, record, sizeof record, (uint8_t)letter).detail;
 }
 
 /* Copies what a call sent from the output to the line, and shows it without LF and CR. */
@@ -28,23 +28,32 @@ static size_t sent(const char *end, in656_result r) {
   return (size_t)r.written;
 }
 
-/* Says that a call was refused. */
+/* Says that a call was refused, and why. */
 static int refused(in656_result r) {
-  if (r.refusal) printf("refused %lu\n", (unsigned long)r.refusal);
-  return r.refusal != IN656_OK;
+  char words[IN656_WORDS_LENGTH];
+  if (r.refusal == IN656_OK) return 0;
+  in656_refusal_words(r.refusal, words, sizeof words);
+  printf("refused %u, %s\n", (unsigned)r.refusal, words);
+  return 1;
 }
 
 int main(int argc, char **argv) {
   in656_result r;
   size_t n;
   if (argc != 1) return fprintf(stderr, "usage: %s\n", argv[0]), 2;
+  if (!in656_same_edition(IN656_VERSION)) return fputs("the library is of another edition than its header\n", stderr), 2;
   if (refused(in656_desk_start(desk, sizeof desk, IN656_LINE_ATC_TC))) return 1;
   if (refused(in656_master_start(master, sizeof master, IN656_LINE_ATC_TC, 0))) return 1;
 
-  fill('B', 125, 90, 120, 88);
+  fill('B');
+  put('L', 125);
+  put('%', 90);
+  put('H', 120);
+  put('R', 88);
   if (refused(in656_desk_queue(desk, sizeof desk, record, sizeof record))) return 1;
 
-  fill('t', 't', 0, 0, 0);
+  fill('t');
+  put('B', 't');
   r = in656_master_offer(master, sizeof master, 100, record, sizeof record, out, sizeof out);
   if (refused(r)) return 1;
   n = sent("master", r);
@@ -55,7 +64,7 @@ int main(int argc, char **argv) {
 
   r = in656_master_hear(master, sizeof master, 150, frame, n, out, sizeof out, record, sizeof record);
   if (refused(r) || r.outcome != IN656_MASTER_ANSWERED || !r.record) return 1;
-  printf("master has %c: length %lu, braking %lu, speed %lu, direction %lu; sending count %lu\n", record[IN656_RECORD_TYPE_AT],
-         value(0), value(1), value(2), value(3), (unsigned long)r.count);
+  printf("master has %c: length %u, braking %u, speed %u, direction %u; sending count %u\n", record[IN656_RECORD_TYPE_AT], value('L'),
+         value('%'), value('H'), value('R'), (unsigned)r.count);
   return 0;
 }

@@ -5,7 +5,8 @@
  *
  * DEVICE is a serial device, or - for a pseudo-terminal of its own. Each RECORD, and each row typed later, is train data,
  * as "B 125 90 120 88": length 125 m, braking percentage 90, speed 120 km/h, direction 88 or 0 (001 section 6.3).
- * It answers t once and r until newer data comes. The panel runs until it is interrupted or the line is gone.
+ * It answers t once and r until newer data comes. A row "look" shows what waits and what is set, and "clear" takes both back,
+ * as at the end of a shift. The panel runs until it is interrupted or the line is gone.
  */
 #include "serial.h"
 #include "show.h"
@@ -13,6 +14,7 @@
 #include <errno.h>
 #include <poll.h>
 #include <stdio.h>
+#include <string.h>
 #include <unistd.h>
 
 #define LINE IN656_LINE_ATC_TC
@@ -23,36 +25,77 @@ struct panel {
   uint8_t desk[IN656_DESK_LENGTH];
 };
 
-/* Takes train data from the keyboard: sets it for r and queues it for t. The desk refuses what it cannot send. */
-static void take_row(struct panel *panel, const char *row)
+/* Shows what the desk holds. */
+static void look(const struct panel *panel)
+{
+  uint8_t record[IN656_RECORD_LENGTH];
+  char text[SHOWN], words[SHOWN] = "nothing";
+  in656_result r = in656_desk_look(panel->desk, sizeof panel->desk, record, sizeof record);
+  uint32_t i;
+  if (r.record == 1)
+    record_words(words, LINE, record);
+  snprintf(text, SHOWN, "line %s, last number %u, %u of %u records wait, set for r: %.200s", r.lost == 1 ? "lost" : "good",
+           (unsigned)r.number, (unsigned)r.count, IN656_QUEUE_SIZE, words);
+  show_line(day_ms(), WHO, "looks", text);
+  for (i = 0; i < r.count; i++) {
+    in656_desk_waiting(panel->desk, sizeof panel->desk, i, record, sizeof record);
+    record_words(text, LINE, record);
+    show_line(day_ms(), WHO, "waits", text);
+  }
+}
+
+/* Forgets what waits and what is set. */
+static void clear(struct panel *panel)
+{
+  in656_desk_clear_queue(panel->desk, sizeof panel->desk);
+  in656_desk_clear_set(panel->desk, sizeof panel->desk);
+  show_line(day_ms(), WHO, "clears", "nothing waits, and nothing is set for r");
+}
+
+/*
+ * Takes train data from the keyboard: queues it for t and sets it for r. The desk refuses what it cannot send.
+ * The queue comes first: it may be full, and then the row shall not be set either. What it takes can be set.
+ */
+static void take_data(struct panel *panel, const char *row)
 {
   uint8_t record[IN656_RECORD_LENGTH];
   char text[SHOWN];
   in656_result r;
-  if (!record_said(row, record)) {
-    show_line(day_ms(), WHO, "typed", "no record: type it as B 125 90 120 88");
+  if (!record_said(text, LINE, row, record)) {
+    show_line(day_ms(), WHO, "typed", text);
     return;
   }
-  r = in656_desk_set(panel->desk, sizeof panel->desk, record, sizeof record);
+  r = in656_desk_queue(panel->desk, sizeof panel->desk, record, sizeof record);
   if (r.refusal == IN656_OK)
-    r = in656_desk_queue(panel->desk, sizeof panel->desk, record, sizeof record);
+    r = in656_desk_set(panel->desk, sizeof panel->desk, record, sizeof record);
   if (r.refusal == IN656_OK)
     record_words(text, LINE, record);
   else
-    desk_words(text, LINE, r, record);
+    refusal_words(text, r.refusal);
   show_line(day_ms(), WHO, r.refusal == IN656_OK ? "queues" : "typed", text);
+}
+
+static void take_row(struct panel *panel, const char *row)
+{
+  if (strcmp(row, "look") == 0)
+    look(panel);
+  else if (strcmp(row, "clear") == 0)
+    clear(panel);
+  else
+    take_data(panel, row);
 }
 
 /* Shows what the master sent (001 sections 6.5, 6.6 and 6.8). A repeat does not come here: the desk answers it by itself. */
 static void take_record(const uint8_t record[IN656_RECORD_LENGTH])
 {
-  unsigned value = (unsigned)record_value(record, 0);
+  uint8_t type = record[IN656_RECORD_TYPE_AT];
+  unsigned value = (unsigned)in656_value(LINE, record, IN656_RECORD_LENGTH, type == 'F' ? 'P' : type == 'G' ? 'E' : 'm').detail;
   char text[SHOWN] = "";
-  if (record[IN656_RECORD_TYPE_AT] == 'F')
+  if (type == 'F')
     snprintf(text, sizeof text, "position %04u", value);
-  if (record[IN656_RECORD_TYPE_AT] == 'G')
+  if (type == 'G')
     snprintf(text, sizeof text, "fault code %03u", value);
-  if (record[IN656_RECORD_TYPE_AT] == 'c')
+  if (type == 'c')
     snprintf(text, sizeof text, "lamps %s", value == 'T' ? "on" : "off");
   show_line(day_ms(), WHO, "shows", text);
 }
@@ -77,6 +120,13 @@ static int hear(struct panel *panel, size_t length)
   return 0;
 }
 
+/* How long poll may sleep, in milliseconds: until a tick does something; -1, for ever, where none will. */
+static int rest(const struct panel *panel)
+{
+  in656_result due = in656_desk_due(panel->desk, sizeof panel->desk, clock_ms());
+  return due.outcome == IN656_DUE_AFTER ? (int)due.detail : -1;
+}
+
 /* Runs until the line is gone; errno says why. */
 static void run(struct panel *panel)
 {
@@ -84,13 +134,11 @@ static void run(struct panel *panel)
   int keyboard = STDIN_FILENO;
   for (;;) {
     struct pollfd ready[2] = {{panel->line.fd, POLLIN, 0}, {keyboard, POLLIN, 0}};
-    uint32_t now;
     size_t length;
     int typed = 0, heard = 0;
-    if (poll(ready, 2, 100) < 0 && errno != EINTR)
+    if (poll(ready, 2, rest(panel)) < 0 && errno != EINTR)
       return;
-    now = clock_ms();
-    if (in656_desk_tick(panel->desk, sizeof panel->desk, now).lost == 1)
+    if (in656_desk_tick(panel->desk, sizeof panel->desk, clock_ms()).lost == 1)
       show_line(day_ms(), WHO, "notes", "the line is lost");
     if (ready[1].revents != 0)
       typed = row_typed(&row, keyboard);

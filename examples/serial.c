@@ -108,7 +108,7 @@ size_t serial_byte(struct serial *line, uint8_t byte)
     r = in656_gatherer_hit(line->gatherer, sizeof line->gatherer);
   else
     r = in656_gatherer_byte(line->gatherer, sizeof line->gatherer, byte);
-  return r.outcome == 1 ? (size_t)r.written : 0;
+  return r.outcome == IN656_TELEGRAM ? (size_t)r.written : 0;
 }
 
 int serial_hear(struct serial *line, size_t *length)

@@ -31,7 +31,7 @@ const uint8_t *serial_telegram(const struct serial *line);
 
 /* A row being typed; what does not fit is dropped. */
 struct row {
-  char text[240];
+  char text[480];
   size_t length;
 };
 

@@ -5,6 +5,7 @@
  *
  * FATES has a character for each sending on the line: . arrives, x is lost, ! has a byte with a parity error. Sendings after
  * the last character arrive. Each RECORD is train data that waits in the desk. The master asks with t, once more than there are records.
+ * Where nothing is heard, the clock goes on to when something is due.
  */
 #include "serial.h"
 #include "show.h"
@@ -13,7 +14,7 @@
 #include <string.h>
 
 #define LINE IN656_LINE_ATC_TC
-#define MOST 8
+#define MOST ((int)IN656_QUEUE_SIZE)
 
 struct world {
   uint32_t now;
@@ -75,7 +76,7 @@ static void ask(struct world *world)
   const uint8_t *telegram = serial_telegram(&world->to_master);
   char text[SHOWN];
   in656_result r;
-  record_said("t t", record);
+  record_said(text, LINE, "t t", record);
   r = in656_master_offer(world->master, sizeof world->master, world->now, record, sizeof record, out, sizeof out);
   for (;;) {
     size_t heard = 0;
@@ -93,7 +94,7 @@ static void ask(struct world *world)
       if (r.record == 1)
         count(world, record);
     } else {
-      world->now += 100;
+      world->now += in656_master_due(world->master, sizeof world->master, world->now).detail;
       r = in656_master_tick(world->master, sizeof world->master, world->now, out, sizeof out);
       if (r.outcome == IN656_MASTER_GIVEN_UP) {
         master_words(text, LINE, r, record);
@@ -108,6 +109,7 @@ static void ask(struct world *world)
 int main(int argc, char **argv)
 {
   struct world world = {0};
+  char text[SHOWN];
   int i, once = 0, more = 0;
   if (argc < 3 || argc > 2 + MOST) {
     fputs("usage: simulated FATES \"B 125 90 120 88\"...\n", stderr);
@@ -123,9 +125,14 @@ int main(int argc, char **argv)
   in656_master_start(world.master, sizeof world.master, LINE, world.now);
   for (i = 2; i < argc; i++) {
     uint8_t *record = world.waiting[world.queued];
-    in656_result r = {0};
-    if (!record_said(argv[i], record) || (r = in656_desk_queue(world.desk, sizeof world.desk, record, IN656_RECORD_LENGTH)).refusal != IN656_OK) {
-      fprintf(stderr, "%s: %s\n", argv[i], r.refusal == IN656_OK ? "no record" : refusal_words(r.refusal));
+    int said = record_said(text, LINE, argv[i], record);
+    if (said) {
+      in656_result r = in656_desk_queue(world.desk, sizeof world.desk, record, IN656_RECORD_LENGTH);
+      said = r.refusal == IN656_OK;
+      refusal_words(text, r.refusal);
+    }
+    if (!said) {
+      fprintf(stderr, "%s: %s\n", argv[i], text);
       return 2;
     }
     world.queued++;

@@ -1,83 +1,13 @@
 //! The C examples, built against the header and the library by the machine's own compilers.
 //! Where the machine lacks something a test says so in one line and passes.
 
+mod compiling;
 mod machine;
 
-use machine::{has, repository, skipped, text};
+use compiling::{build, compile, run, said, C99, CPP17, DATA};
+use machine::{has, repository, text};
 use std::fs;
-use std::io::Write;
-use std::path::{Path, PathBuf};
-use std::process::{Command, Output, Stdio};
-
-const C99: [&str; 3] = ["gcc", "-std=c99", "-D_XOPEN_SOURCE=700"];
-const CPP17: [&str; 3] = ["g++", "-xc++", "-std=c++17"];
-const STRICT: [&str; 4] = ["-Wall", "-Wextra", "-Werror", "-pedantic"];
-const DATA: &str = "B 125 90 120 88";
-
-/// The library for this machine, where it is built.
-fn library() -> Option<PathBuf> {
-    let path = if cfg!(target_arch = "x86_64") {
-        repository("target/staticlib/libin656.a")
-    } else {
-        repository("target/native/libin656.a")
-    };
-    if !path.is_file() {
-        skipped("the library is not built: tools/build archive in656");
-        return None;
-    }
-    Some(path)
-}
-
-/// Compiles sources of examples/ without a warning; further arguments of the compiler stand last.
-fn compile(compiler: &[&str], sources: &[&str], rest: &[&Path]) {
-    let built = Command::new(compiler[0])
-        .args(&compiler[1..])
-        .args(STRICT)
-        .arg("-I")
-        .arg(repository("include"))
-        .args(sources.iter().map(|name| repository("examples").join(name)))
-        .args(rest)
-        .output()
-        .expect("the compiler runs");
-    let said = String::from_utf8_lossy(&built.stderr);
-    assert!(built.status.success(), "{sources:?}: {said}");
-    assert_eq!(said, "", "{sources:?}");
-}
-
-/// Builds an example over the library, under a name of its own; with the sources that examples share, where it uses them.
-fn build(compiler: &[&str], name: &str, example: &str, shares: bool) -> Option<PathBuf> {
-    let library = library().filter(|_| has(compiler[0]))?;
-    let program = Path::new(env!("CARGO_TARGET_TMPDIR")).join(name);
-    let sources = [example, "serial.c", "show.c"];
-    let sources = if shares { &sources[..] } else { &sources[..1] };
-    // what follows -xnone is taken by its name: the archive is no source
-    let none = Path::new("-xnone");
-    compile(
-        compiler,
-        sources,
-        &[none, &library, Path::new("-o"), &program],
-    );
-    Some(program)
-}
-
-/// Runs a program with words, on an input.
-fn run(program: &Path, words: &[&str], input: &[u8]) -> Output {
-    let mut child = Command::new(program)
-        .args(words)
-        .stdin(Stdio::piped())
-        .stdout(Stdio::piped())
-        .stderr(Stdio::piped())
-        .spawn()
-        .expect("the example starts");
-    let mut pipe = child.stdin.take().expect("its input is a pipe");
-    pipe.write_all(input).expect("it takes its input");
-    drop(pipe);
-    child.wait_with_output().expect("it is waited for")
-}
-
-fn said(output: &Output) -> String {
-    String::from_utf8_lossy(&output.stdout).into_owned()
-}
+use std::path::Path;
 
 #[test]
 fn every_example_compiles_without_a_warning() {
@@ -152,10 +82,10 @@ fn a_lost_answer_and_the_record_arrives_once() {
     assert!(output.status.success(), "{said}");
     for (words, times) in [
         ("again, sending 2", 1),
-        ("the oldest record that waited", 1),
+        ("answered with the oldest record of the queue", 1),
         ("a repeat", 1),
         ("answered, sendings 2: B L125%090H120R88", 1),
-        ("nothing waits", 1),
+        ("since no record waits", 1),
     ] {
         assert_eq!(said.matches(words).count(), times, "{words} in\n{said}");
     }
@@ -189,27 +119,52 @@ fn whatever_is_lost_each_record_arrives_once() {
     assert!(whole > 100 && given_up > 100, "{whole} {given_up}");
 }
 
-/// The panel and the bench as they are, over pseudo-terminals at the line's speed, with the first answer lost: some seconds.
+/// A row that is no record, or that the desk cannot send, is refused with words; nothing is taken as 0.
 #[test]
-fn the_panel_and_the_bench_talk() {
-    if !Path::new("/dev/ptmx").exists() {
-        return skipped("this machine has no pseudo-terminals");
-    }
-    let programs =
-        ["try", "panel", "bench"].map(|name| build(&C99, name, &format!("{name}.c"), true));
-    let [Some(tried), Some(panel), Some(bench)] = programs else {
+fn a_row_is_whole_or_refused() {
+    let Some(simulated) = build(&C99, "simulated-rows", "simulated.c", true) else {
         return;
     };
-    let words = [
-        panel.to_str().expect("a path"),
-        bench.to_str().expect("a path"),
-    ];
-    let output = run(&tried, &words, b"");
-    let said = said(&output);
-    let last = "try: well: the first answer was lost, and the train data arrived once\n";
-    assert!(said.ends_with(last), "{said}");
-    assert!(output.status.success());
-    assert_eq!(said.matches("shows  fault code 288").count(), 1, "{said}");
+    for (row, words) in [
+        (
+            "B 1 2",
+            "no record: B has 4 values, L % H R, and this row has 2",
+        ),
+        (
+            "B 1 2 3 0 5",
+            "no record: B has 4 values, L % H R, and this row has 5",
+        ),
+        ("r", "no record: r has 1 value, B, and this row has 0"),
+        (
+            "B 99999999999 1 1 0",
+            "no record: 99999999999 is too long for a value",
+        ),
+        (
+            "",
+            "no record: a row is a type of one character, and its values",
+        ),
+        (
+            "BB 1 2 3 0",
+            "no record: a row is a type of one character, and its values",
+        ),
+        (
+            "? 1",
+            "refused 12, this end does not send this record on this line",
+        ),
+        (
+            "G 288",
+            "refused 12, this end does not send this record on this line",
+        ),
+        (
+            "B 1 2 3 4",
+            "refused 13, a value, a number or the key position is out of its range",
+        ),
+    ] {
+        let output = run(&simulated, &[".", row], b"");
+        let line = String::from_utf8_lossy(&output.stderr).into_owned();
+        assert_eq!(line, format!("{row}: {words}\n"));
+        assert_eq!(output.status.code(), Some(2), "{row}");
+    }
 }
 
 /// Each example says on standard error how it is called, and ends with status 2.
@@ -237,31 +192,5 @@ fn each_example_says_how_it_is_called() {
         assert!(line.ends_with(&format!("{usage}\n")), "{line}");
         assert_eq!(output.status.code(), Some(2), "{name}");
         assert_eq!(said(&output), "");
-    }
-}
-
-/// A bench without an answer gives up, says so, and fails; so does one on a file that is no serial device.
-#[test]
-fn the_bench_fails_without_an_answer() {
-    let Some(bench) = build(&C99, "bench-alone", "bench.c", true) else {
-        return;
-    };
-    let output = run(&bench, &["/dev/null", "t t"], b"");
-    assert!(!output.status.success());
-    assert!(String::from_utf8_lossy(&output.stderr).contains("/dev/null"));
-    assert!(!run(&bench, &[], b"").status.success());
-    if Path::new("/dev/ptmx").exists() {
-        let output = run(&bench, &["-", "t t", "B 1 2 3 0", "?"], b"");
-        let said = said(&output);
-        assert!(!output.status.success());
-        assert!(
-            said.contains("given up, no answer, line noted lost, sendings 3"),
-            "{said}"
-        );
-        assert_eq!(
-            said.matches("call refused: not sent by this end").count(),
-            2,
-            "{said}"
-        );
     }
 }
