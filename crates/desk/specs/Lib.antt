@@ -6,6 +6,7 @@ pub mod Answers
 pub mod State
 pub mod Panel
 pub mod Clearing
+pub mod Due
 pub mod Order
 pub mod Queue
 pub mod Heard

@@ -1,8 +1,9 @@
-// The desk, the slave's end of a line (rules D1 to D18).
+// The desk, the slave's end of a line (rules D1 to D19).
 pub mod answers;
 pub mod applying;
 pub mod clearing;
 pub mod deciding;
+pub mod due;
 pub mod fitting;
 pub mod heard;
 pub mod hearing;

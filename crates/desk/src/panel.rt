@@ -20,7 +20,7 @@ use records::refusals::Refusal;
 use values::values::permits_record;
 
 // T1's limit, in milliseconds.
-const T1: u32 = 28_000;
+pub(crate) const T1: u32 = 28_000;
 
 impl Desk {
     // Whether the line is good and T1 has run out.

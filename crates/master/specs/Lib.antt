@@ -7,3 +7,4 @@ pub mod Sending
 pub mod Order
 pub mod Hearing
 pub mod Timers
+pub mod Due

@@ -97,7 +97,7 @@ impl Master {
     }
 
     // Whether the state is in its ranges.
-    fn in_ranges(self) -> bool
+    pub(crate) fn in_ranges(self) -> bool
         ensures { λ r. ⌜ r ≡ inRanges self ⌝ }
     {
         if !self.fits_free() {
