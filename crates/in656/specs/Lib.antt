@@ -1,5 +1,6 @@
 pub mod Results
 pub mod Inputs
+pub mod Edition
 pub mod Desks
 pub mod Telegrams
 pub mod Logs

@@ -1,5 +1,6 @@
 // The C face (include/in656.h): the exported functions, on numbers and lent bytes.
 pub mod desks;
+pub mod edition;
 pub mod gatherers;
 pub mod inputs;
 pub mod lengths;
