@@ -4,7 +4,7 @@
 mod compiling;
 mod machine;
 
-use compiling::{build, compile, run, said, C99, CPP17, DATA};
+use compiling::{build, compile, run, said, talker, C99, CPP17, DATA};
 use machine::{has, repository, text};
 use std::fs;
 use std::path::Path;
@@ -117,6 +117,34 @@ fn whatever_is_lost_each_record_arrives_once() {
         assert!(said.ends_with(last), "{fates}: {said}");
     }
     assert!(whole > 100 && given_up > 100, "{whole} {given_up}");
+}
+
+/// The panel and the bench as they are, over pseudo-terminals at the line's speed, with the first answer lost: some seconds.
+#[test]
+fn the_panel_and_the_bench_talk() {
+    let programs = ["try", "panel", "bench"].map(|name| talker(name, &format!("{name}.c")));
+    let [Some(tried), Some(panel), Some(bench)] = programs else {
+        return;
+    };
+    let words = [
+        panel.to_str().expect("a path"),
+        bench.to_str().expect("a path"),
+    ];
+    let output = run(&tried, &words, b"");
+    let said = said(&output);
+    let last = "try: well: the first answer was lost, and the train data arrived once\n";
+    assert!(said.ends_with(last), "{said}");
+    assert!(output.status.success());
+    assert_eq!(said.matches("shows  fault code 288").count(), 1, "{said}");
+    let times = said
+        .lines()
+        .map(|line| line.split(' ').next().unwrap_or(""));
+    let times: Vec<&str> = times.filter(|time| time.contains(':')).collect();
+    let midnight = times.windows(2).filter(|pair| pair[0] > pair[1]).count();
+    assert!(
+        times.len() > 15 && midnight <= usize::from(times[0].starts_with("23:59")),
+        "in the order of time: {said}"
+    );
 }
 
 /// A row that is no record, or that the desk cannot send, is refused with words; nothing is taken as 0.

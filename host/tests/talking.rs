@@ -1,25 +1,15 @@
-//! The panel and the bench of `examples/`, over pseudo-terminals.
+//! The panel and the bench of `examples/` on lines of their own, and programs that are not there.
 //! Where the machine lacks something a test says so in one line and passes.
 
 mod compiling;
 mod machine;
 
-use compiling::{build, run, said, C99, DATA};
-use machine::skipped;
+use compiling::{build, run, said, talker, C99, DATA};
 use std::fs;
 use std::io::{BufRead, BufReader, Write};
-use std::path::{Path, PathBuf};
+use std::path::Path;
 use std::process::{Child, Command, Stdio};
 use std::time::Duration;
-
-/// An example that opens a pseudo-terminal, where this machine has them.
-fn talker(name: &str, example: &str) -> Option<PathBuf> {
-    if !Path::new("/dev/ptmx").exists() {
-        skipped("this machine has no pseudo-terminals");
-        return None;
-    }
-    build(&C99, name, example, true)
-}
 
 /// A panel on a pseudo-terminal of its own. It is ended with the test.
 struct Panel(Child);
@@ -105,34 +95,6 @@ fn the_panel_sleeps() {
     let before = panel.sleeps();
     std::thread::sleep(Duration::from_millis(700));
     assert_eq!(panel.sleeps(), before);
-}
-
-/// The panel and the bench as they are, over pseudo-terminals at the line's speed, with the first answer lost: some seconds.
-#[test]
-fn the_panel_and_the_bench_talk() {
-    let programs = ["try", "panel", "bench"].map(|name| talker(name, &format!("{name}.c")));
-    let [Some(tried), Some(panel), Some(bench)] = programs else {
-        return;
-    };
-    let words = [
-        panel.to_str().expect("a path"),
-        bench.to_str().expect("a path"),
-    ];
-    let output = run(&tried, &words, b"");
-    let said = said(&output);
-    let last = "try: well: the first answer was lost, and the train data arrived once\n";
-    assert!(said.ends_with(last), "{said}");
-    assert!(output.status.success());
-    assert_eq!(said.matches("shows  fault code 288").count(), 1, "{said}");
-    let times = said
-        .lines()
-        .map(|line| line.split(' ').next().unwrap_or(""));
-    let times: Vec<&str> = times.filter(|time| time.contains(':')).collect();
-    let midnight = times.windows(2).filter(|pair| pair[0] > pair[1]).count();
-    assert!(
-        times.len() > 15 && midnight <= usize::from(times[0].starts_with("23:59")),
-        "in the order of time: {said}"
-    );
 }
 
 /// A program that is not there is said, and ends the try.

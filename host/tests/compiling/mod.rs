@@ -67,6 +67,15 @@ pub fn build(compiler: &[&str], name: &str, example: &str, shares: bool) -> Opti
     Some(program)
 }
 
+/// An example that opens a pseudo-terminal, where this machine has them.
+pub fn talker(name: &str, example: &str) -> Option<PathBuf> {
+    if !Path::new("/dev/ptmx").exists() {
+        skipped("this machine has no pseudo-terminals");
+        return None;
+    }
+    build(&C99, name, example, true)
+}
+
 /// Runs a program with words, on an input.
 pub fn run(program: &Path, words: &[&str], input: &[u8]) -> Output {
     let mut child = Command::new(program)
