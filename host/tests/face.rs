@@ -112,6 +112,11 @@ fn sequences_of_calls() {
         refused(&tally, "desk_queue", [12, 13, 15, 17]);
         refused(&tally, "desk_set", [12, 13, 15]);
         refused(&tally, "desk_key", [12, 13, 15]);
+        refused(&tally, "desk_clear_queue", [15]);
+        refused(&tally, "desk_clear_set", [15]);
+        for call in ["desk_look", "desk_waiting", "desk_due", "master_due"] {
+            assert!(sum(&tally, call) > 400_000, "{call}");
+        }
         assert!(
             tally.contains_key(&("desk_tick", 0, 1, 0, 1)),
             "a tick notes the line lost"
@@ -164,6 +169,76 @@ fn records_of_a_log_written() {
     }
 }
 
+#[test]
+fn packets_and_values() {
+    let run = |library: &dyn Face| compare("packets and values", GATE, library, &Second);
+    if let Some(tally) = part("packets and values", run) {
+        for call in ["packet", "record", "value", "put_value"] {
+            assert!(sum(&tally, call) > 1_000_000);
+            reached(&tally, call, 0, [0]);
+            refused(&tally, call, [12, 15]);
+        }
+        reached(&tally, "packet", 1, [0]);
+        reached(&tally, "packet", 2, [0]);
+        refused(&tally, "record", [14]);
+        refused(&tally, "value", [10]);
+        refused(&tally, "put_value", [10]);
+    }
+}
+
+/// Looks, what is due with the ticks around it, and clearing, on made states.
+#[test]
+fn states_looked_at() {
+    let run = |library: &dyn Face| compare("states looked at", GATE, library, &Second);
+    if let Some(tally) = part("states looked at", run) {
+        for call in ["desk_look", "desk_due", "desk_clear_queue"] {
+            assert!(sum(&tally, call) >= 100_000);
+            refused(&tally, call, [15]);
+        }
+        for call in ["desk_waiting", "master_look", "master_due"] {
+            assert!(sum(&tally, call) >= 100_000);
+            refused(&tally, call, [15]);
+        }
+        for call in ["desk_look", "desk_waiting", "master_look"] {
+            refused(&tally, call, [14]);
+        }
+        reached(&tally, "desk_due", 0, [0]);
+        reached(&tally, "desk_due", 1, [0]);
+        reached(&tally, "master_due", 1, [0]);
+        reached(&tally, "master_look", 1, [0, 1]);
+        reached(&tally, "master_look", 2, [0, 1]);
+        reached(&tally, "master_tick", 1, [0]);
+        reached(&tally, "master_tick", 2, [2, 3]);
+        reached(&tally, "master_tick", 5, [1]);
+        assert!(
+            tally.contains_key(&("desk_tick", 0, 1, 0, 1)),
+            "a tick notes the line lost"
+        );
+    }
+}
+
+#[test]
+fn words_said() {
+    let run = |library: &dyn Face| compare("words", GATE, library, &Second);
+    if let Some(tally) = part("words", run) {
+        for call in ["refusal_words", "desk_words", "master_words"] {
+            assert!(sum(&tally, call) > 1_000_000);
+            reached(&tally, call, 0, [0]);
+            refused(&tally, call, [13, 14]);
+        }
+    }
+}
+
+#[test]
+fn editions_asked() {
+    let run = |library: &dyn Face| compare("editions", GATE, library, &Second);
+    if let Some(tally) = part("editions", run) {
+        assert!(sum(&tally, "same_edition") > 1_000_000);
+        reached(&tally, "same_edition", 0, [0]);
+        reached(&tally, "same_edition", 1, [0]);
+    }
+}
+
 /// Demand 3's sentences on runs of the two compiled ends.
 #[test]
 fn runs_judged() {
@@ -173,6 +248,7 @@ fn runs_judged() {
         assert!(sum(&tally, "runs as supposed") > 50_000);
         assert!(sum(&tally, "runs as supposed, none given up") > 20_000);
         assert!(sum(&tally, "noted lost") > 1_000);
+        assert!(sum(&tally, "cleared") > 100_000);
         let broken = sum(&tally, "other runs that break a sentence");
         assert!(broken > 0, "what is supposed is needed");
     }

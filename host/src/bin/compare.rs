@@ -5,7 +5,7 @@
 
 use host::comparing::linked::library;
 use host::comparing::runs::judge_runs;
-use host::comparing::{compare, figures, Size, GATE, PARTS};
+use host::comparing::{compare, figures, sums, Size, Tally, GATE, PARTS};
 use host::programs::arguments::{arguments, stop};
 use host::second::face::Face;
 use host::second::Second;
@@ -37,11 +37,16 @@ fn main() {
         Ok(library) => library,
         Err(why) => return println!("skipped: {why}"),
     };
+    let mut all = Tally::new();
     for (part, ..) in PARTS {
         let from = Instant::now();
         let tally = compare(part, size, face, &Second);
         say(part, from, &figures(&tally));
+        for (told, count) in tally {
+            *all.entry(told).or_default() += count;
+        }
     }
+    println!("all calls compared\n{}", sums(&all).trim_end());
     let from = Instant::now();
     say(
         "runs judged by demand 3",

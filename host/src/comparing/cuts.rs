@@ -4,7 +4,7 @@ use super::{Lent, Pair};
 use crate::making::calls;
 use crate::making::captures::{capture, noise};
 use crate::making::random::Random;
-use crate::second::blocks::GATHERER;
+use crate::second::blocks::{GATHERER, MARK, TELEGRAM_AT};
 use crate::second::face::Call;
 use crate::second::numbers::TELEGRAM;
 
@@ -21,6 +21,7 @@ pub fn cut(pair: &mut Pair, seed: u64, items: usize) {
             }
         };
         let bytes = bytes.into_boxed_slice();
+        unstarted(pair, &mut random);
         let hits = random.one_in(3);
         let stepped = by_step(pair, &mut random, &bytes, hits);
         let found = by_search(pair, &bytes, 0);
@@ -33,10 +34,35 @@ pub fn cut(pair: &mut Pair, seed: u64, items: usize) {
     }
 }
 
+/// A byte and a hit on a block that was never started: zeroed, random, with a mark that is nearly right, or as the block was
+/// before there was a mark.
+fn unstarted(pair: &mut Pair, random: &mut Random) {
+    let mut block: Vec<u8> = (0..GATHERER).map(|_| random.byte()).collect();
+    match random.below(6) {
+        0 => block.fill(0),
+        1 => block.splice(..MARK.len(), *MARK).for_each(drop),
+        2 => {
+            block.splice(..MARK.len(), *MARK).for_each(drop);
+            calls::change(random, block.get_mut(..=MARK.len()).unwrap_or_default());
+        }
+        3 => {
+            block.fill(0);
+            block.splice(..MARK.len(), *MARK).for_each(drop);
+            calls::change(random, &mut block);
+        }
+        4 => block = [&[random.below(66) as u8][..], &[b'A'; 66]].concat(),
+        _ => {}
+    }
+    let byte = random.byte();
+    for call in [Call::GathererByte(byte), Call::GathererHit] {
+        pair.on(call, &mut pair.lent(&block));
+    }
+}
+
 /// The telegrams handed out byte by byte, at times with hits and damaged states among them.
 fn by_step(pair: &mut Pair, random: &mut Random, bytes: &[u8], hits: bool) -> Vec<Vec<u8>> {
     let length = if random.one_in(50) {
-        random.below(70)
+        random.below(GATHERER + 5)
     } else {
         GATHERER
     };
@@ -44,6 +70,7 @@ fn by_step(pair: &mut Pair, random: &mut Random, bytes: &[u8], hits: bool) -> Ve
     pair.on(Call::GathererStart, &mut state);
     if length != GATHERER {
         state = pair.lent(&[0; GATHERER]);
+        pair.on(Call::GathererStart, &mut state);
     }
     let mut telegrams = Vec::new();
     for byte in bytes {
@@ -55,8 +82,9 @@ fn by_step(pair: &mut Pair, random: &mut Random, bytes: &[u8], hits: bool) -> Ve
         }
         let answer = pair.on(Call::GathererByte(*byte), &mut state);
         if answer.outcome == TELEGRAM {
-            let behind = state.bytes().get(1..=answer.written as usize);
-            telegrams.push(behind.unwrap_or_default().to_vec());
+            let behind = state.bytes().get(TELEGRAM_AT..).unwrap_or_default();
+            let telegram = behind.get(..answer.written as usize).unwrap_or_default();
+            telegrams.push(telegram.to_vec());
         }
     }
     telegrams

@@ -1,7 +1,9 @@
 //! Sequences of calls of desk and master by both, mostly of exchanges that fit together, with
-//! lost and damaged frames, short rooms, damaged states and clocks that jump: rules E1 to E12, K1 to K5, M1 to M18, D1 to D16.
+//! lost and damaged frames, short rooms, damaged states and clocks that jump. Between them both are looked at, and what is
+//! due is asked: rules E1 to E12, K1 to K5, M1 to M18, D1 to D16.
 
-use super::{Lent, Pair};
+use super::states::{of_desk, of_master};
+use super::{dues, Lent, Pair};
 use crate::making::calls;
 use crate::making::damage::DAMAGES;
 use crate::making::random::Random;
@@ -100,7 +102,7 @@ impl Sequence<'_, '_> {
         };
         if arrives.is_some() || !self.random.one_in(25) {
             self.on_an_end(of_desk, arrives.is_some());
-            return;
+            return self.look(of_desk);
         }
         let kept = if of_desk { &self.desk } else { &self.master }.clone();
         let damaged = calls::damage(self.random, kept.bytes());
@@ -110,6 +112,22 @@ impl Sequence<'_, '_> {
         // a state that every call refuses is put right again; others are now and then
         if answer.refusal == 15 || self.random.one_in(2) {
             *self.end(of_desk) = kept;
+        }
+    }
+
+    /// At times both ends are looked at, and one is ticked around what is due.
+    fn look(&mut self, desk_is_next: bool) {
+        if self.random.one_in(12) {
+            of_desk(self.pair, self.random, &self.desk, self.now);
+            of_master(self.pair, self.random, &self.master, self.now);
+        }
+        if self.random.one_in(40) {
+            let end = if desk_is_next {
+                &self.desk
+            } else {
+                &self.master
+            };
+            dues::due(self.pair, self.random, desk_is_next, end, self.now);
         }
     }
 
@@ -151,8 +169,8 @@ impl Sequence<'_, '_> {
 
     fn on_desk(&mut self, hears: bool, out: &mut Lent, record: &mut Lent) -> Answer {
         let (pair, now, line) = (&mut *self.pair, self.now, self.line);
-        match self.random.below(50) {
-            draw if hears || draw > 17 => {
+        match self.random.below(52) {
+            draw if hears || draw > 19 => {
                 let frame = heard(self.random, line, &self.from_master);
                 let answer = pair.call(Call::DeskHear(now, &frame), &mut self.desk, out, record);
                 if keep(&mut self.from_desk, answer, out) {
@@ -162,13 +180,16 @@ impl Sequence<'_, '_> {
             }
             0..=4 => pair.call(Call::DeskTick(now), &mut self.desk, out, record),
             5..=11 => {
-                let block = calls::block(self.random, line, data_type(line)).into_boxed_slice();
-                pair.call(Call::DeskQueue(&block), &mut self.desk, out, record)
+                let block = calls::block(self.random, line, data_type(line));
+                let mut block = pair.lent(&block);
+                pair.call(Call::DeskQueue, &mut self.desk, out, &mut block)
             }
             12..=15 => {
                 let block = calls::block(self.random, line, data_type(line)).into_boxed_slice();
                 pair.call(Call::DeskSet(&block), &mut self.desk, out, record)
             }
+            16 if self.random.one_in(2) => pair.on(Call::DeskClearQueue, &mut self.desk),
+            17 => pair.on(Call::DeskClearSet, &mut self.desk),
             _ => {
                 let wide = [0, 256, 65_536, 1 << 24][self.random.below(4)]
                     * u32::from(self.random.one_in(8));

@@ -2,13 +2,18 @@
 //! each call compares all that it answers and all that it may change.
 
 pub mod cuts;
+pub mod dues;
+pub mod editions;
 pub mod ends;
 #[cfg(archive)]
 pub mod library;
 pub mod linked;
 pub mod logs;
+pub mod packets;
 pub mod runs;
+pub mod states;
 pub mod telegrams;
+pub mod words;
 
 use crate::second::face::{Answer, Call, Face};
 use std::collections::BTreeMap;
@@ -56,6 +61,27 @@ pub type Told = (&'static str, u32, u32, u32, u32);
 /// How often each call told what.
 pub type Tally = BTreeMap<Told, u64>;
 
+/// Whether a call only looks at its state.
+fn looks(call: &Call) -> bool {
+    let name = call.name();
+    ["_due", "_look", "_waiting"]
+        .iter()
+        .any(|end| name.ends_with(end))
+}
+
+/// Whether a call's detail is a time, a value, a letter or the key, each of which is not counted by itself.
+fn counts(call: &Call) -> bool {
+    matches!(
+        call,
+        Call::LogRead(..)
+            | Call::Packet(..)
+            | Call::Value(..)
+            | Call::DeskDue(_)
+            | Call::DeskLook
+            | Call::MasterDue(_)
+    )
+}
+
 /// The two faces, and what they answered so far.
 pub struct Pair<'a> {
     library: &'a dyn Face,
@@ -101,14 +127,28 @@ impl Pair<'_> {
                  second version: {want:?}\n{s:?}\n{o:?}\n{r:?}"
             );
         }
-        // the detail of a record of a log is its time, which is not counted
-        let detail = match call {
-            Call::LogRead(..) => 0,
-            _ => got.detail,
-        };
-        let told = (call.name(), got.refusal, got.outcome, detail, got.lost);
-        *self.tally.entry(told).or_default() += 1;
+        let same = (*state == before.0, *out == before.1, *record == before.2);
+        if got.refusal != 0 && same != (true, true, true) || looks(&call) && !same.0 {
+            panic!("{call:?} differs from what it must leave\nbefore: {before:?}\nafter: {state:?}\n{out:?}\n{record:?}");
+        }
+        let detail = if counts(&call) { 0 } else { got.detail };
+        self.told((call.name(), got.refusal, got.outcome, detail, got.lost));
         got
+    }
+
+    fn told(&mut self, told: Told) {
+        *self.tally.entry(told).or_default() += 1;
+    }
+
+    /// Asks both whether a program with this version may use them, and which version they are.
+    pub fn edition(&mut self, version: u32) {
+        let got = self.library.same_edition(version);
+        let want = self.second.same_edition(version);
+        assert_eq!(got, want, "in656_same_edition {version:#x} differs\n");
+        self.told(("same_edition", 0, got, 0, 0));
+        let (got, want) = (self.library.version(), self.second.version());
+        assert_eq!(got, want, "in656_version differs\n");
+        self.told(("version", 0, 0, 0, 0));
     }
 
     /// A call that is lent nothing but a state.
@@ -157,13 +197,17 @@ pub fn in_chunks(size: Size, work: impl Fn(u64) -> Tally + Sync) -> Tally {
 pub type Part = fn(&mut Pair, u64, usize);
 
 /// The parts, each with its name and the items of a whole chunk.
-pub const PARTS: [(&str, usize, Part); 6] = [
+pub const PARTS: [(&str, usize, Part); 10] = [
     ("frames read", 20_000, telegrams::read),
     ("records written", 10_000, telegrams::write),
     ("streams cut", 1_000, cuts::cut),
     ("sequences of calls", 2_000, ends::call),
     ("logs replayed", 1_000, logs::replay),
     ("records of a log written", 10_000, logs::write),
+    ("packets and values", 10_000, packets::ask),
+    ("states looked at", 1_000, states::look),
+    ("words", 10_000, words::say),
+    ("editions", 10_000, editions::ask),
 ];
 
 /// Compares a part of the library with the second version.
@@ -181,6 +225,16 @@ pub fn compare(part: &str, size: Size, library: &dyn Face, second: &dyn Face) ->
         run(&mut pair, seed, items / size.divided);
         pair.tally
     })
+}
+
+/// A line for each call of all parts: how often it was made.
+pub fn sums(tally: &Tally) -> String {
+    let mut sums: BTreeMap<&str, u64> = BTreeMap::new();
+    for ((name, ..), count) in tally {
+        *sums.entry(name).or_default() += count;
+    }
+    let line = |(name, sum): (&&str, &u64)| format!("  {name} {sum}\n");
+    sums.iter().map(line).collect()
 }
 
 /// A line for each call: how often it was made, refused with which number, and did what.

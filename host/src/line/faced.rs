@@ -123,7 +123,8 @@ impl Ends for BothEnds<'_> {
     }
 
     fn desk_queue(&mut self, record: &Record) -> Result<(), Refusal> {
-        taken(self.on_desk(Call::DeskQueue(&record_block(record)))).map(|_| ())
+        self.record = record_block(record);
+        taken(self.on_desk(Call::DeskQueue)).map(|_| ())
     }
 
     fn desk_set(&mut self, record: &Record) -> Result<(), Refusal> {

@@ -8,5 +8,6 @@ pub mod exchange;
 pub mod logs;
 pub mod random;
 pub mod scripts;
+pub mod states;
 pub mod telegrams;
 pub mod times;

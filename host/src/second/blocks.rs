@@ -9,11 +9,15 @@ use crate::second::records::Record;
 use std::sync::LazyLock;
 
 pub const RECORD: usize = 64;
-pub const GATHERER: usize = 67;
+pub const GATHERER: usize = 71;
 pub const DESK: usize = 653;
 pub const MASTER: usize = 77;
 /// The bytes of a state's stored answer, and of a gathered telegram.
 const ANSWER: usize = 66;
+/// What a started gatherer's block begins with; then the count of its bytes, then the bytes.
+pub const MARK: &[u8; 4] = b"656G";
+/// Where a gatherer's bytes begin.
+pub const TELEGRAM_AT: usize = MARK.len() + 1;
 /// The places of a desk's queue.
 const PLACES: usize = 8;
 
@@ -35,6 +39,23 @@ pub fn record_block(record: &Record) -> [u8; RECORD] {
         place.copy_from_slice(&value.to_be_bytes());
     }
     block
+}
+
+/// Where the value of the packet at an index stands.
+fn value_place(index: usize) -> std::ops::Range<usize> {
+    1 + 4 * index..5 + 4 * index
+}
+
+/// The value of the packet at an index.
+pub fn value_in(block: &[u8], index: usize) -> u32 {
+    let mut rest = Rest(block.get(value_place(index)).unwrap_or_default());
+    rest.number()
+}
+
+pub fn put_value(block: &mut [u8], index: usize, value: u32) {
+    if let Some(place) = block.get_mut(value_place(index)) {
+        place.copy_from_slice(&value.to_be_bytes());
+    }
 }
 
 /// The record of a block: 12 where the length or the type is wrong, 13 where a byte that the
@@ -143,7 +164,11 @@ pub fn blank_places() -> Vec<Record> {
 
 /// The places behind the waiting records keep what they held. When a record leaves, each place
 /// takes what the next one holds, so the last stands twice; a queued record overwrites its place.
+/// A queue that is cleared has its places as at the start.
 pub fn places(before: &[Record], left: bool, desk: &Desk) -> Vec<Record> {
+    if desk.queue.is_empty() {
+        return blank_places();
+    }
     let mut places = before.to_vec();
     if left {
         places.remove(0);

@@ -4,7 +4,7 @@
 use std::sync::OnceLock;
 
 /// The names of the faults.
-pub const FAULTS: [&str; 7] = [
+pub const FAULTS: [&str; 13] = [
     "lower case taken",
     "telegram goes on over LF",
     "fault stored",
@@ -12,6 +12,12 @@ pub const FAULTS: [&str; 7] = [
     "number changed",
     "key taken from every A",
     "T0 restarted by the key",
+    "a repeat's contents untold",
+    "due a millisecond late",
+    "queue cleared with the record set",
+    "queue looked at from its end",
+    "gatherer without its mark",
+    "words without their 0",
 ];
 
 /// Whether this fault is switched on.

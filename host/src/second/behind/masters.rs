@@ -1,6 +1,6 @@
 //! The master's calls on a block: what each answers, and the bytes it leaves.
 
-use super::{fill, line_in, outcome, refused, send};
+use super::{contents, due_of, fill, line_in, outcome, refused, room, send};
 use crate::second::blocks::{self, master_block, master_in};
 use crate::second::face::Answer;
 use crate::second::master::{Master, Told, Why};
@@ -24,11 +24,6 @@ fn did(told: Told, block: &mut [u8]) -> Answer {
         ..Answer::default()
     };
     let ignored = |detail| told_of(MASTER_IGNORED, detail, 0);
-    let contents = |(refusal, place): (u8, usize), answer| Answer {
-        contents: refusal.into(),
-        place: place as u64,
-        ..answer
-    };
     match told {
         Told::Refused(refusal) => refused(refusal, 0),
         Told::Nothing => outcome(MASTER_NOTHING),
@@ -43,16 +38,12 @@ fn did(told: Told, block: &mut [u8]) -> Answer {
             record: fill(block, &record),
             ..told_of(MASTER_OTHER_KIND, 0, count)
         },
-        Told::OtherKind(Err(refusal), count) => {
-            contents(refusal, told_of(MASTER_OTHER_KIND, 0, count))
-        }
+        Told::OtherKind(Err(_), count) => told_of(MASTER_OTHER_KIND, 0, count),
         Told::Silence(count) => told_of(MASTER_GIVEN_UP, GIVEN_UP_SILENCE, count),
         Told::Rejected(count) => told_of(MASTER_GIVEN_UP, GIVEN_UP_REJECTED, count),
         Told::Ignored(Why::Free) => ignored(IGNORED_FREE),
         Told::Ignored(Why::RunOut) => ignored(IGNORED_RUN_OUT),
-        Told::Ignored(Why::Refused(refusal, place)) => {
-            contents((refusal, place), ignored(IGNORED_CONTENTS))
-        }
+        Told::Ignored(Why::Refused(..)) => ignored(IGNORED_CONTENTS),
         Told::Ignored(Why::OtherNumber) => ignored(IGNORED_OTHER_NUMBER),
     }
 }
@@ -76,4 +67,57 @@ pub(super) fn on_master(
         written: send(out, &bytes),
         ..answer
     }
+}
+
+/// Whatever came of it, the frame's refusal is told.
+pub(super) fn hear(
+    state: &mut [u8],
+    time: u32,
+    frame: &[u8],
+    out: &mut [u8],
+    block: &mut [u8],
+) -> Answer {
+    let room = room(out, block);
+    let answer = on_master(state, out, block, |master, _| {
+        master.hear(time, room, frame)
+    });
+    match master_in(state) {
+        Some(master) if answer.refusal == 0 => contents(master.line, frame, answer),
+        _ => answer,
+    }
+}
+
+/// Looks at the master of a block, and leaves the block alone.
+fn looked(state: &[u8], look: impl FnOnce(&Master) -> Answer) -> Answer {
+    match master_in(state).map(|master| (master.due(0), master)) {
+        Some((Ok(_), master)) => look(&master),
+        _ => refused(15, 0),
+    }
+}
+
+pub(super) fn due(state: &[u8], time: u32) -> Answer {
+    looked(state, |master| due_of(master.due(time)))
+}
+
+pub(super) fn look(state: &[u8], block: &mut [u8]) -> Answer {
+    looked(state, |master| {
+        if block.len() != blocks::RECORD {
+            return refused(14, 0);
+        }
+        let answer = Answer {
+            detail: master.operation.into(),
+            number: master.number.into(),
+            count: master.count.into(),
+            lost: (!master.good).into(),
+            ..outcome(MASTER_FREE)
+        };
+        match master.count {
+            0 => answer,
+            _ => Answer {
+                outcome: MASTER_WAITING,
+                record: fill(block, &master.record),
+                ..answer
+            },
+        }
+    })
 }

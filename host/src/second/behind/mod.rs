@@ -3,16 +3,18 @@
 
 mod desks;
 mod masters;
+mod packets;
+mod words;
 
-use crate::second::blocks::{self, record_block, record_in};
+use crate::second::blocks::{self, record_block, record_in, MARK};
 use crate::second::cutting::{next_telegram, Cutter, Heard as Item};
 use crate::second::desk::ROOM;
 use crate::second::face::{Answer, Call, Face, Lengths};
+use crate::second::faults::is_on;
 use crate::second::logs::{entry_at, write, Entry, Mark, HEAD, UNKNOWN_MARK};
-use crate::second::numbers::{DESK_DONE, TELEGRAM};
+use crate::second::numbers::{DUE_AFTER, DUE_NEVER, TELEGRAM, VERSION};
 use crate::second::reading::{form_of, read, LONGEST};
 use crate::second::records::Record;
-use desks::on_desk;
 use masters::on_master;
 
 /// The second version.
@@ -67,6 +69,30 @@ fn send(out: &mut [u8], bytes: &[u8]) -> u64 {
     bytes.len() as u64
 }
 
+/// An answer to a heard frame, with the refusal of the frame where it is refused.
+fn contents(line: u8, frame: &[u8], answer: Answer) -> Answer {
+    match read(line, frame) {
+        Ok(_) => answer,
+        Err((refusal, place)) => Answer {
+            contents: refusal.into(),
+            place: place as u64,
+            ..answer
+        },
+    }
+}
+
+/// What is due of an end: after how many milliseconds, or never.
+fn due_of(due: Result<Option<u32>, u8>) -> Answer {
+    match due {
+        Ok(Some(after)) => Answer {
+            detail: after + u32::from(is_on("due a millisecond late")),
+            ..outcome(DUE_AFTER)
+        },
+        Ok(None) => outcome(DUE_NEVER),
+        Err(refusal) => refused(refusal, 0),
+    }
+}
+
 fn reading(line: u32, frame: &[u8], block: &mut [u8]) -> Answer {
     let Some(line) = line_in(line) else {
         return refused(15, 0);
@@ -105,14 +131,19 @@ fn writing(line: u32, block: &[u8], number: u32, out: &mut [u8]) -> Answer {
     }
 }
 
-/// A gatherer's block is the count of gathered bytes and 66 bytes, which keep what they held
-/// where none is gathered.
+/// A gatherer's block is its mark, the count of gathered bytes and 66 bytes, which keep what they
+/// held where none is gathered.
 fn gathering(state: &mut [u8], item: Item) -> Answer {
-    let held = usize::from(state.first().copied().unwrap_or(0));
-    if state.len() != blocks::GATHERER || held >= LONGEST {
+    if state.len() != blocks::GATHERER {
         return refused(15, 0);
     }
-    let (count, bytes) = state.split_at_mut(1);
+    let (mark, rest) = state.split_at_mut(MARK.len());
+    let (count, bytes) = rest.split_at_mut(1);
+    let held = usize::from(count.first().copied().unwrap_or(0));
+    let started = mark == MARK || is_on("gatherer without its mark");
+    if !started || held >= LONGEST {
+        return refused(15, 0);
+    }
     let mut cutter = Cutter::holding(bytes.get(..held).unwrap_or(&[]));
     let ended = cutter.hear(item);
     let gathered = ended.as_deref().unwrap_or(cutter.gathered());
@@ -125,6 +156,15 @@ fn gathering(state: &mut [u8], item: Item) -> Answer {
         },
         None => Answer::default(),
     }
+}
+
+fn gatherer_start(state: &mut [u8]) -> Answer {
+    if state.len() != blocks::GATHERER {
+        return refused(15, 0);
+    }
+    state.fill(0);
+    send(state, MARK);
+    Answer::default()
 }
 
 fn searching(bytes: &[u8], from: usize) -> Answer {
@@ -181,40 +221,40 @@ impl Face for Second {
         [result, ROOM, blocks::RECORD, ends[0], ends[1], ends[2]]
     }
 
+    fn version(&self) -> u32 {
+        VERSION
+    }
+
+    /// The same edition, and calls that this version has.
+    fn same_edition(&self, version: u32) -> u32 {
+        let parts = |version: u32| (version / 65_536, version % 65_536 / 256);
+        let ((edition, calls), (own, has)) = (parts(version), parts(VERSION));
+        (edition == own && calls <= has).into()
+    }
+
     fn call(&self, call: Call, state: &mut [u8], out: &mut [u8], record: &mut [u8]) -> Answer {
         match call {
             Call::Read(line, frame) => reading(line, frame, record),
             Call::Write(line, block, number) => writing(line, block, number, out),
-            Call::GathererStart if state.len() != blocks::GATHERER => refused(15, 0),
-            Call::GathererStart => {
-                state.fill(0);
-                Answer::default()
-            }
+            Call::Packet(line, of, _, index) => packets::packet(line, of, index),
+            Call::Record(line, of, _) => packets::blank(line, of, record),
+            Call::Value(line, block, letter) => packets::value(line, block, letter),
+            Call::PutValue(line, letter, value) => packets::put(line, record, letter, value),
+            Call::GathererStart => gatherer_start(state),
             Call::GathererByte(byte) => gathering(state, Item::Byte(byte)),
             Call::GathererHit => gathering(state, Item::Hit),
             Call::Next(bytes, from) => searching(bytes, from),
             Call::DeskStart(line) => desks::start(state, line),
-            Call::DeskTick(time) => on_desk(state, |desk| {
-                let lost = desk.tick(time)?.into();
-                Ok(Answer {
-                    lost,
-                    ..outcome(DESK_DONE)
-                })
-            }),
-            Call::DeskQueue(block) => on_desk(state, |desk| {
-                desk.queue(meant(block))?;
-                Ok(outcome(DESK_DONE))
-            }),
-            Call::DeskSet(block) => on_desk(state, |desk| {
-                desk.set(meant(block))?;
-                Ok(outcome(DESK_DONE))
-            }),
-            Call::DeskKey(key) => on_desk(state, |desk| {
-                // a key above 255 is no position, and neither is 0
-                desk.turn_key(u8::try_from(key).unwrap_or(0))?;
-                Ok(outcome(DESK_DONE))
-            }),
+            Call::DeskTick(time) => desks::tick(state, time),
+            Call::DeskQueue => desks::queue(state, record),
+            Call::DeskSet(block) => desks::set(state, block),
+            Call::DeskKey(key) => desks::turn_key(state, key),
+            Call::DeskClearQueue => desks::clear_queue(state),
+            Call::DeskClearSet => desks::clear_set(state),
             Call::DeskHear(time, frame) => desks::hear(state, time, frame, out, record),
+            Call::DeskDue(time) => desks::due(state, time),
+            Call::DeskLook => desks::look(state, record),
+            Call::DeskWaiting(index) => desks::waiting(state, index, record),
             Call::MasterStart(line, time) => masters::start(state, line, time),
             Call::MasterOffer(time, block) => on_master(state, out, record, |master, room| {
                 master.offer(time, room, meant(block))
@@ -222,14 +262,14 @@ impl Face for Second {
             Call::MasterTick(time) => {
                 on_master(state, out, record, |master, room| master.tick(time, room))
             }
-            Call::MasterHear(time, frame) => {
-                let room = room(out, record);
-                on_master(state, out, record, |master, _| {
-                    master.hear(time, room, frame)
-                })
-            }
+            Call::MasterHear(time, frame) => masters::hear(state, time, frame, out, record),
+            Call::MasterDue(time) => masters::due(state, time),
+            Call::MasterLook => masters::look(state, record),
             Call::LogRead(log, from) => log_reading(log, from),
             Call::LogWrite(mark, time, bytes) => log_writing(mark, time, bytes, out),
+            Call::RefusalWords(refusal) => words::of_refusal(refusal, out),
+            Call::DeskWords(outcome, detail) => words::of_desk(outcome, detail, out),
+            Call::MasterWords(outcome, detail) => words::of_master(outcome, detail, out),
         }
     }
 }
