@@ -3,6 +3,7 @@
 mod found;
 
 use found::{defined, header, linked, Found};
+use host::comparing::stack::most;
 use host::second::face::Face;
 use host::second::Second;
 
@@ -29,7 +30,7 @@ fn numbers_of(face: &dyn Face) {
     found.timers();
     found.master();
     found.words(defined["WORDS_LENGTH"]);
-    // the stack is a bound
+    // the stack is measured below, and may be rounded up
     found.numbers.insert("STACK".into(), defined["STACK"]);
     assert_eq!(found.numbers, defined);
 }
@@ -45,4 +46,16 @@ fn the_version_is_one_number() {
         .iter()
         .all(|part| defined[*part] < 256);
     assert!(narrow, "a part of the version is over 255");
+}
+
+/// No call needs more stack than the header says.
+#[test]
+fn the_stack_is_enough() {
+    if linked("the stack").is_none() {
+        return;
+    }
+    let stack = defined()["STACK"];
+    for (call, bytes) in most(1, 20) {
+        assert!(bytes as u64 <= stack, "in656_{call} needs {bytes} bytes");
+    }
 }

@@ -11,6 +11,7 @@ pub mod linked;
 pub mod logs;
 pub mod packets;
 pub mod runs;
+pub mod stack;
 pub mod states;
 pub mod telegrams;
 pub mod words;
