@@ -1,4 +1,4 @@
--- The desk under any calls (rules D1 to D18). Assumes nothing.
+-- The desk under any calls (rules D1 to D19). Assumes nothing.
 pub mod Waiting
 pub mod Steps
 pub mod Kept
@@ -6,6 +6,7 @@ pub mod Stored
 pub mod Repeats
 pub mod Faults
 pub mod Timed
+pub mod Due
 pub mod Handled
 pub mod Afterwards
 pub mod Polls

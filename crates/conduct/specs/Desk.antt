@@ -1,4 +1,4 @@
--- The desk under any calls (rules D1 to D18): what is proved of it. Assumes nothing.
+-- The desk under any calls (rules D1 to D19): what is proved of it. Assumes nothing.
 pub mod Calls
 pub mod Kept
 pub mod Refused
@@ -11,4 +11,5 @@ pub mod Afterwards
 pub mod Once
 pub mod Cleared
 pub mod Timed
+pub mod Due
 pub mod Apart

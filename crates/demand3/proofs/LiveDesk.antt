@@ -10,7 +10,6 @@ use borrow.Author.Tests.{leb-true}
 use Rattle.laws.proofs.Truths.{both-right, clash}
 use Rattle.laws.proofs.Passes.{on-test}
 use Rattle.records.specs.Answers.{Fault, good, fails}
-use Rattle.records.specs.declared.records.Record.{Record}
 use Rattle.characters.specs.Marks.{longest}
 use Rattle.clock.specs.Clock.{elapsedOf, runOut}
 use Rattle.desk.specs.Deciding.{Ruling, silent, fault, repeat, handle}

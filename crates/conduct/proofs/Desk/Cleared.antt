@@ -3,16 +3,14 @@
 use mathlib.Core.Path.{_≡_, refl, sym, ap, _∙_}
 use mathlib.Core.Bool.{Bool, true, false}
 use mathlib.Core.List.{List}
-use Prim.Native.Nat.{ℕ, _≤_}
-use lib.ListN.{length}
-use Rattle.characters.specs.Marks.{longest}
+use Prim.Native.Nat.{ℕ}
 use Rattle.desk.specs.Answers.{done}
 use Rattle.desk.specs.Panel.{losesLine, notedOf}
 use Rattle.desk.specs.Clearing.{withNoneQueued, withNoneSet, clearQueueOf, clearSetOf}
-use Rattle.desk.specs.Hearing.{Hearing, ruling, hearOf}
+use Rattle.desk.specs.Hearing.{Hearing, ruling}
 use Rattle.desk.specs.declared.state.Desk.{Desk}
-use Rattle.conduct.specs.Desk.Calls.{Fine, noted}
-use Rattle.conduct.specs.Desk.Cleared.{Stays, QueueCleared, SetCleared, Alike, RepeatsQueueCleared, RepeatsSetCleared}
+use Rattle.conduct.specs.Desk.Calls.{Fine}
+use Rattle.conduct.specs.Desk.Cleared.{QueueCleared, SetCleared, RepeatsQueueCleared, RepeatsSetCleared}
 use Rattle.conduct.proofs.Desk.Kept.{clear-queue-keeps, clear-set-keeps}
 use Rattle.conduct.proofs.Desk.Repeats.{repeat-stored}
 

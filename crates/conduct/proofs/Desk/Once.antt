@@ -12,7 +12,6 @@ use Rattle.laws.proofs.Passes.{on-test}
 use Rattle.forms.specs.Lines.{isLine}
 use Rattle.records.specs.declared.records.Record.{Record}
 use Rattle.values.specs.Values.{permitsRecord}
-use Rattle.records.specs.Answers as w
 use Rattle.writing.specs.Writing.{telegramOf}
 use Rattle.writing.proofs.Trips.{written-reads}
 use Rattle.desk.specs.Deciding.{What, request, poll, other}
@@ -34,7 +33,7 @@ use Rattle.desk.proofs.Permitted.{reply-allowed}
 use Rattle.desk.proofs.Answering.{oldest-replies}
 use Rattle.conduct.specs.Desk.Calls.{Call, ticks, queues, sets, turns, clearsQueue, clearsSet, hears, Answered, did, Result, hearing, after, run, Fine}
 use Rattle.conduct.specs.Desk.Polls.{waiting, Answers}
-use Rattle.conduct.specs.Desk.Once.{records, queuedIn, givenIn, leavesIn, accepted, left, given, NoneClears, EachOnce, QueuedOnce, OnlyGiven}
+use Rattle.conduct.specs.Desk.Once.{records, queuedIn, givenIn, leavesIn, accepted, left, EachOnce, QueuedOnce, OnlyGiven}
 use Rattle.conduct.proofs.Desk.Waiting.{filled-behind}
 use Rattle.conduct.proofs.Desk.Steps.{Does, does}
 use Rattle.conduct.proofs.Desk.Steps as s
