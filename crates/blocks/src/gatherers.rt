@@ -1,11 +1,11 @@
-// A gatherer as a block: the number of bytes gathered, and the bytes (rules F7, F8).
+// A gatherer as a block: its mark, the number of bytes gathered, and the bytes (rules F7, F8, F11).
 ghost use mathlib.Core.Path.{_≡_};
 ghost use Prim.Native.Nat.{_+_, _<_};
 ghost use lib.ListN.{length};
 ghost use Rattle.text.specs.Putting.{puts};
 ghost use Rattle.cutting.specs.Gather.{gatheredOf};
 ghost use Rattle.cutting.specs.declared.gather.Item.the-variants.{Byte, Hit};
-ghost use Rattle.blocks.specs.Gatherers.{gathererBytes, saveOf, countIn, holdingIn, gatherIn};
+ghost use Rattle.blocks.specs.Gatherers.{gathererBytes, saveOf, started, countIn, holdingIn, gatherIn};
 use crate::heads::count_byte;
 use characters::marks::LONGEST;
 use characters::slices::byte_at;
@@ -19,14 +19,15 @@ use text::putting::put_byte;
 use text::putting::put_text;
 
 // All bytes of a gatherer's block.
-pub const GATHERER_LENGTH: usize = 1 + LONGEST;
+pub const GATHERER_LENGTH: usize = 5 + LONGEST;
 
 // Puts a gatherer's block at a place, and answers the place behind it.
 fn put_gatherer(out: &mut [u8], at: usize, g: Gatherer) -> usize
     ensures { λ r. ⌜ (r, now (out .exit)) ≡ puts (gathererBytes g) at (now (out .entry)) ⌝ }
 {
     let bytes = g.bytes;
-    let a = put_byte(out, at, count_byte(g.len));
+    let m = put_text(out, at, b"656G");
+    let a = put_byte(out, m, count_byte(g.len));
     put_text(out, a, &bytes)
 }
 
@@ -39,12 +40,31 @@ pub fn save(g: Gatherer, block: &mut [u8])
     }
 }
 
-// The number of bytes gathered; 66, which no gatherer in its ranges has, where the block has another length.
+// Whether a block has its length and begins with the mark.
+fn is_started(block: &[u8]) -> bool
+    ensures { λ r. ⌜ r ≡ started (now (block .entry)) ⌝ }
+{
+    if block.len() != GATHERER_LENGTH {
+        return false;
+    }
+    if block[0] != b'6' {
+        return false;
+    }
+    if block[1] != b'5' {
+        return false;
+    }
+    if block[2] != b'6' {
+        return false;
+    }
+    block[3] == b'G'
+}
+
+// The number of bytes gathered; 66, which no gatherer in its ranges has, where the block was never started.
 fn count_in(block: &[u8]) -> usize
     ensures { λ r. ⌜ r ≡ countIn (now (block .entry)) ⌝ }
 {
-    if block.len() == GATHERER_LENGTH {
-        wide(byte_at(block, 0))
+    if is_started(block) {
+        wide(byte_at(block, 4))
     } else {
         LONGEST
     }
@@ -52,11 +72,11 @@ fn count_in(block: &[u8]) -> usize
 
 // Writes the number of bytes gathered, and a byte of the telegram at its index.
 fn put(block: &mut [u8], count: u8, at: usize, byte: u8)
-    requires { ⌜ at + 1 < length (now block) ⌝ }
+    requires { ⌜ at + 5 < length (now block) ⌝ }
     ensures { λ _. ⌜ now (block .exit) ≡ holdingIn (now (block .entry)) count at byte ⌝ }
 {
-    block[0] = count;
-    block[at + 1] = byte;
+    block[4] = count;
+    block[at + 5] = byte;
 }
 
 // One byte on a gatherer's block: of its bytes a step changes at most the count and one other.
@@ -78,7 +98,7 @@ pub fn gather_byte(block: &mut [u8], byte: u8) -> Gathered
             Gathered::Telegram(at + 1)
         }
         Turn::Drops => {
-            block[0] = 0;
+            block[4] = 0;
             Gathered::Nothing
         }
     }
@@ -92,6 +112,6 @@ pub fn gather_hit(block: &mut [u8]) -> Gathered
     if LONGEST <= len {
         return Gathered::Refused(Refusal::State);
     }
-    block[0] = 0;
+    block[4] = 0;
     Gathered::Nothing
 }

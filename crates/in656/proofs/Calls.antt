@@ -39,6 +39,10 @@ unfolding master.masterHear master.heard master.stepped
 master-hears b time frame block out x y told o s k r l e q p f =
     rw (eq-eqb _ _ e, ← l, ← q, f) (ap (λ (w : Call). (w .0, (w .1, (master.answerBlock told block, o)))) p)
 
+-- a call that leaves a lent block as it is
+pub leaves : (r : In656Result) (s block : List ℕ) (c : Call) → (r, s) ≡ c → (r, (s, block)) ≡ desk.besides c block
+leaves r s block c p = ap (λ (w : Call). desk.besides w block) p
+
 -- the desk's hearing
 pub desk-hears : (b : List ℕ) (time : ℕ) (frame block out : List ℕ) (x y : Desk) (told : d.Told) (o s k : List ℕ) (r : In656Result)
     → x ≡ ds.loadOf b → length block ≡ recordLength → (y, told, o) ≡ dh.hearOf x time frame out → (r, (s, k)) ≡ desk.heardParts y told b block

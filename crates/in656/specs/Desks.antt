@@ -34,8 +34,15 @@ deskStart b line = stepped (startOf (lineFor deskLength b line)) b
 abbrev pub deskTick : List ℕ → ℕ → Call
 deskTick b time = stepped (tickOf (loadOf b) time) b
 
-abbrev pub deskQueue : List ℕ → List ℕ → Call
-deskQueue b block = stepped (queueOf (loadOf b) (recordMeant block)) b
+-- the result, the state and the record block, which stays as it is
+abbrev pub QueueCall : Type 0
+QueueCall = In656Result × (List ℕ × List ℕ)
+
+abbrev pub besides : Call → List ℕ → QueueCall
+besides c block = (c .0, (c .1, block))
+
+abbrev pub deskQueue : List ℕ → List ℕ → QueueCall
+deskQueue b block = besides (stepped (queueOf (loadOf b) (recordMeant block)) b) block
 
 abbrev pub deskSet : List ℕ → List ℕ → Call
 deskSet b block = stepped (setOf (loadOf b) (recordMeant block)) b

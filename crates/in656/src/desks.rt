@@ -51,8 +51,8 @@ pub extern "C" fn in656_desk_tick(state: &mut [u8], time: u32) -> In656Result
 }
 
 #[no_mangle]
-pub extern "C" fn in656_desk_queue(state: &mut [u8], block: &[u8]) -> In656Result
-    ensures { λ r. ⌜ (r, now (state .exit)) ≡ deskQueue (now (state .entry)) (now (block .entry)) ⌝ }
+pub extern "C" fn in656_desk_queue(state: &mut [u8], block: &mut [u8]) -> In656Result
+    ensures { λ r. ⌜ (r, (now (state .exit), now (block .exit))) ≡ deskQueue (now (state .entry)) (now (block .entry)) ⌝ }
 {
     let desk = load(state);
     close(desk.queue(meaning(block)), state)

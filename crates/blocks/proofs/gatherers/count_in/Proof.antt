@@ -1,5 +1,4 @@
--- `count_in` takes the count of a block of the right length. Assumes nothing.
-use borrow.Author.Tests.{eq-eqb, ne-eqb}
+-- `count_in` takes the count of a block that was started. Assumes nothing.
 use Rattle.blocks.specs.Gatherers.{countIn}
 use borrow.Author.Needs.{needs}
 use Rattle.blocks.proofs.gatherers.count_in.Statement.{statement}
@@ -10,5 +9,6 @@ unfolding countIn
 count-in-spec =
     tie.close
     (tie.spec
-    (λ c κs. search needs) (λ c κs. search needs)
-    (λ c. rw (eq-eqb _ _ (c .before .before .if1 .taken), c .wide .ensures .0, c .before .byte-at .ensures)) (λ c. rw (ne-eqb _ _ (c .if1 .left))))
+    (λ c κs. search needs) (λ c κs. search needs) (λ c κs. search needs)
+    (λ c. let i = c .before .before in rw (← (i .before .is-started .ensures), i .if1 .taken, c .wide .ensures .0, c .before .byte-at .ensures))
+    (λ c. rw (← (c .before .is-started .ensures), c .if1 .left)))
