@@ -107,6 +107,13 @@ fn sequences_of_calls() {
         }
         reached(&tally, "desk_hear", 5, 1..=7);
         refused(&tally, "desk_hear", [14, 15]);
+        reached(&tally, "desk_hear, contents", 2, 1..=7);
+        reached(&tally, "desk_hear, contents", 3, [6]);
+        for outcome in 4..=5 {
+            reached(&tally, "desk_hear, contents", outcome, 8..=11);
+        }
+        reached(&tally, "master_hear, contents", 4, 8..=11);
+        reached(&tally, "master_hear, contents", 6, 1..=11);
         refused(&tally, "desk_start", [15]);
         refused(&tally, "desk_tick", [15]);
         refused(&tally, "desk_queue", [12, 13, 15, 17]);

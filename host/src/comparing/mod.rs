@@ -56,7 +56,8 @@ impl Lent {
     }
 }
 
-/// A call's name and what it told: refusal, outcome, detail, and whether the line was noted lost.
+/// A call's name and what it told: refusal, outcome, detail, and whether the line was noted lost. Of a heard frame that was
+/// refused there is another one, with its refusal as the detail.
 pub type Told = (&'static str, u32, u32, u32, u32);
 
 /// How often each call told what.
@@ -134,6 +135,13 @@ impl Pair<'_> {
         }
         let detail = if counts(&call) { 0 } else { got.detail };
         self.told((call.name(), got.refusal, got.outcome, detail, got.lost));
+        if got.contents != 0 {
+            let name = match call {
+                Call::DeskHear(..) => "desk_hear, contents",
+                _ => "master_hear, contents",
+            };
+            self.told((name, 0, got.outcome, got.contents, 0));
+        }
         got
     }
 
@@ -231,7 +239,8 @@ pub fn compare(part: &str, size: Size, library: &dyn Face, second: &dyn Face) ->
 /// A line for each call of all parts: how often it was made.
 pub fn sums(tally: &Tally) -> String {
     let mut sums: BTreeMap<&str, u64> = BTreeMap::new();
-    for ((name, ..), count) in tally {
+    let calls = |((name, ..), _): &(&Told, &u64)| !name.contains(',');
+    for ((name, ..), count) in tally.iter().filter(calls) {
         *sums.entry(name).or_default() += count;
     }
     let line = |(name, sum): (&&str, &u64)| format!("  {name} {sum}\n");
