@@ -20,10 +20,11 @@ use Rattle.desk.specs.Replying.{requested, queue, key, contents, notMaster, ask
 use Rattle.desk.specs.declared.replying.Wanted.{Wanted}
 use Rattle.desk.specs.declared.replying.Wanted.the-variants.{None, Is}
 use Rattle.records.specs.Refusals.{No}
-use Rattle.desk.specs.Answers.{Done, done}
+use Rattle.desk.specs.Answers.{Done, done, lost}
 use Rattle.desk.specs.Heard.{handled}
 use Rattle.desk.specs.State.{startOf}
 use Rattle.desk.specs.Panel.{losesLine, notedOf, withQueued}
+use Rattle.desk.specs.Clearing.{clearQueueOf}
 use Rattle.desk.specs.Queue.{oldest, replyTo}
 use Rattle.desk.specs.Hearing.{Hearing, faultedOf, repeatedOf, handledOf}
 use Rattle.desk.specs.Waiting.{blank}
@@ -33,16 +34,24 @@ use Rattle.desk.proofs.Permitted.{reply-allowed}
 use Rattle.desk.proofs.Answering.{oldest-replies}
 use Rattle.conduct.specs.Desk.Calls.{Call, ticks, queues, sets, turns, clearsQueue, clearsSet, hears, Answered, did, Result, hearing, after, run, Fine}
 use Rattle.conduct.specs.Desk.Polls.{waiting, Answers}
-use Rattle.conduct.specs.Desk.Once.{records, queuedIn, givenIn, leavesIn, accepted, left, EachOnce, QueuedOnce, OnlyGiven}
+use Rattle.conduct.specs.Desk.Once.{records, queuedIn, givenIn, Leaves, givenOut, cleared, recordIn, outOf, leavesIn, accepted, left, EachOnce, QueuedOnce, OnlyGiven}
 use Rattle.conduct.proofs.Desk.Waiting.{filled-behind}
 use Rattle.conduct.proofs.Desk.Steps.{Does, does}
 use Rattle.conduct.proofs.Desk.Steps as s
 use Rattle.conduct.proofs.Desk.Kept.{fits, keeps, start-fine}
 use Rattle.conduct.proofs.Desk.Polls.{polled, takes-oldest, answers-key}
 
+all-cleared : (xs : List Record) → map recordIn (map cleared xs) ≡ xs
+all-cleared [] = refl
+all-cleared (x ∷ xs) = rw (all-cleared xs)
+
+none-out : (xs : List Record) → outOf (map cleared xs) ≡ []
+none-out [] = refl
+none-out (x ∷ xs) = none-out xs
+
 -- what waits and what is queued is what leaves and what waits then
 abbrev Balanced : Desk → Call → Result → Type 0
-Balanced d call turn = records d ++ queuedIn call (turn .1) ≡ leavesIn d call (turn .1) ++ records (turn .0)
+Balanced d call turn = records d ++ queuedIn call (turn .1) ≡ map recordIn (leavesIn d call (turn .1)) ++ records (turn .0)
 
 module _ (d : Desk) (f : Fine d) where
   none-refused : (call : Call) (x : No) → Balanced d call (d, did (Done.refused x))
@@ -110,7 +119,7 @@ module _ (d : Desk) (f : Fine d) where
       go call turn (s.queued {rec} m q) = one-queued rec q
       go call turn (s.isSet m) = append-nil (records d)
       go call turn (s.turned m) = append-nil (records d)
-      go call turn s.emptied = refl
+      go call turn s.emptied = rw (all-cleared (records d))
       go call turn s.unset = append-nil (records d)
       go call turn (s.unmoved {at}) = noted-waits (losesLine d at)
       go call turn (s.faults {at} n) = noted-waits (losesLine d at)
@@ -123,9 +132,11 @@ each-once d f (call ∷ calls) =
     let e = after d call .0 in
     let a = queuedIn call (after d call .1) in
     let g = leavesIn d call (after d call .1) in
-    append-assoc g (left e calls) (records (run e calls))
-    ∙ ap (λ (x : List Record). g ++ x) (each-once e (keeps d f call .fine) calls)
-    ∙ sym (append-assoc g (records e) (accepted e calls))
+    let r = map recordIn g in
+    ap (λ (x : List Record). x ++ records (run e calls)) (map-append recordIn g (left e calls))
+    ∙ append-assoc r (map recordIn (left e calls)) (records (run e calls))
+    ∙ ap (λ (x : List Record). r ++ x) (each-once e (keeps d f call .fine) calls)
+    ∙ sym (append-assoc r (records e) (accepted e calls))
     ∙ ap (λ (x : List Record). x ++ accepted e calls) (sym (balanced d f call))
     ∙ append-assoc (records d) a (accepted e calls)
 
@@ -137,15 +148,32 @@ pub queued-once : QueuedOnce
 queued-once line h calls =
     each-once (startOf line .0) (start-fine line h) calls ∙ ap (λ (x : List Record). x ++ accepted (startOf line .0) calls) (start-empty line h)
 
-only-leaves : (d : Desk) (call : Call) (answer : Answered) → ¬ (call ≡ clearsQueue) → leavesIn d call answer ≡ givenIn (d .line) answer
-only-leaves d (ticks at) answer n = refl
-only-leaves d (queues rec) answer n = refl
-only-leaves d (sets rec) answer n = refl
-only-leaves d (turns position) answer n = refl
-only-leaves d clearsQueue answer n = absurd (n refl)
-only-leaves d clearsSet answer n = refl
-only-leaves d (hears at frame out) answer n = refl
+all-out : (xs : List Record) → outOf (map givenOut xs) ≡ xs
+all-out [] = refl
+all-out (x ∷ xs) = rw (all-out xs)
+
+out-append : (xs ys : List Leaves) → outOf (xs ++ ys) ≡ outOf xs ++ outOf ys
+out-append [] ys = refl
+out-append (givenOut rec ∷ xs) ys = rw (out-append xs ys)
+out-append (cleared rec ∷ xs) ys = out-append xs ys
+
+cleared-out : (d : Desk) (x : Done) → outOf (leavesIn d clearsQueue (did x)) ≡ []
+cleared-out d done = none-out (records d)
+cleared-out d lost = refl
+cleared-out d (Done.refused x) = refl
+
+one-out : (d : Desk) (call : Call) → outOf (leavesIn d call (after d call .1)) ≡ givenIn (d .line) (after d call .1)
+one-out d (ticks at) = refl
+one-out d (queues rec) = refl
+one-out d (sets rec) = refl
+one-out d (turns position) = refl
+one-out d clearsQueue = cleared-out d (clearQueueOf d .1)
+one-out d clearsSet = refl
+one-out d (hears at frame out) = all-out (givenIn (d .line) (after d (hears at frame out) .1))
 
 pub only-given : OnlyGiven
-only-given d [] n = refl
-only-given d (call ∷ calls) n = rw (only-leaves d call (after d call .1) (n .0), only-given (after d call .0) calls (n .1))
+only-given d [] = refl
+only-given d (call ∷ calls) =
+    let e = after d call .0 in
+    out-append (leavesIn d call (after d call .1)) (left e calls)
+    ∙ rw (one-out d call, only-given e calls)

@@ -59,25 +59,40 @@ givenIn line (heard (fault noting value n) out) = []
 givenIn line (heard (repeat n) out) = []
 givenIn line (heard (handled noting origin n) out) = givenBy line origin (take n out)
 
--- the records that leave the queue by a call: all that wait by a clearing that is done, the one that it gives out by any other
-abbrev pub leavesIn : Desk → Call → Answered → List Record
-leavesIn desk clearsQueue (did done) = records desk
+-- a record leaves the queue given out, or cleared
+pub data Leaves : Type 0 where
+  givenOut : Record → Leaves
+  cleared : Record → Leaves
+
+abbrev pub recordIn : Leaves → Record
+recordIn (givenOut rec) = rec
+recordIn (cleared rec) = rec
+
+-- those that were given out
+abbrev pub outOf : List Leaves → List Record
+outOf [] = []
+outOf (givenOut rec ∷ gone) = rec ∷ outOf gone
+outOf (cleared rec ∷ gone) = outOf gone
+
+-- what leaves the queue by a call: all that wait by a clearing that is done, the record that it gives out by any other
+abbrev pub leavesIn : Desk → Call → Answered → List Leaves
+leavesIn desk clearsQueue (did done) = map cleared (records desk)
 leavesIn desk clearsQueue (did lost) = []
 leavesIn desk clearsQueue (did (d.refused x)) = []
 leavesIn desk clearsQueue (heard told out) = []
-leavesIn desk (ticks at) answer = givenIn (desk .line) answer
-leavesIn desk (queues rec) answer = givenIn (desk .line) answer
-leavesIn desk (sets rec) answer = givenIn (desk .line) answer
-leavesIn desk (turns position) answer = givenIn (desk .line) answer
-leavesIn desk clearsSet answer = givenIn (desk .line) answer
-leavesIn desk (hears at frame out) answer = givenIn (desk .line) answer
+leavesIn desk (ticks at) answer = map givenOut (givenIn (desk .line) answer)
+leavesIn desk (queues rec) answer = map givenOut (givenIn (desk .line) answer)
+leavesIn desk (sets rec) answer = map givenOut (givenIn (desk .line) answer)
+leavesIn desk (turns position) answer = map givenOut (givenIn (desk .line) answer)
+leavesIn desk clearsSet answer = map givenOut (givenIn (desk .line) answer)
+leavesIn desk (hears at frame out) answer = map givenOut (givenIn (desk .line) answer)
 
--- the records that calls queued, those that left the queue by them, and those that they gave out from it, in order
+-- the records that calls queued, what left the queue by them, and the records that they gave out from it, in order
 abbrev pub accepted : Desk → List Call → List Record
 accepted d [] = []
 accepted d (call ∷ calls) = queuedIn call (after d call .1) ++ accepted (after d call .0) calls
 
-abbrev pub left : Desk → List Call → List Record
+abbrev pub left : Desk → List Call → List Leaves
 left d [] = []
 left d (call ∷ calls) = leavesIn d call (after d call .1) ++ left (after d call .0) calls
 
@@ -88,19 +103,14 @@ given d (call ∷ calls) = givenIn (d .line) (after d call .1) ++ given (after d
 -- the records that left the queue, each given out or cleared, then those that wait behind the calls, are those that waited before them and
 -- then those that they queued, each once and in order
 abbrev pub EachOnce : Type 0
-EachOnce = (d : Desk) → Fine d → (calls : List Call) → left d calls ++ records (run d calls) ≡ records d ++ accepted d calls
+EachOnce = (d : Desk) → Fine d → (calls : List Call) → map recordIn (left d calls) ++ records (run d calls) ≡ records d ++ accepted d calls
 
 -- from the start, where none waits
 abbrev pub QueuedOnce : Type 0
 QueuedOnce =
     (line : ℕ) → isLine line ≡ true → (calls : List Call)
-    → left (startOf line .0) calls ++ records (run (startOf line .0) calls) ≡ accepted (startOf line .0) calls
+    → map recordIn (left (startOf line .0) calls) ++ records (run (startOf line .0) calls) ≡ accepted (startOf line .0) calls
 
--- none of these calls clears the queue
-abbrev pub NoneClears : List Call → Type 0
-NoneClears [] = Unit {0}
-NoneClears (call ∷ calls) = ¬ (call ≡ clearsQueue) × NoneClears calls
-
--- then the records given out are all that left it
+-- those of them that were given out are the records that the calls gave out
 abbrev pub OnlyGiven : Type 0
-OnlyGiven = (d : Desk) (calls : List Call) → NoneClears calls → left d calls ≡ given d calls
+OnlyGiven = (d : Desk) (calls : List Call) → outOf (left d calls) ≡ given d calls
