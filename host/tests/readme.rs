@@ -87,5 +87,32 @@ fn the_listing() {
     let capture = std::fs::read(repository("samples/line1.cap")).expect("the sample");
     let listed = listing(&capture);
     let lines: Vec<&str> = listed.lines().skip(6).take(2).collect();
-    assert!(text("README.md").contains(&indented(&lines.join("\n"))));
+    let page = text("README.md");
+    assert!(page.contains(&indented(&lines.join("\n"))));
+    let offset = lines[1].split(' ').nth(1).and_then(|n| n.parse().ok());
+    let offset: usize = offset.expect("a number");
+    assert_eq!(capture[1 + offset..][..4], *b"\n08A");
+    let from = format!("    tail -c +{} samples/line1.cap |", offset + 2);
+    assert!(page.contains(&from), "{from}");
+}
+
+/// The version that it names is the header's.
+#[test]
+fn the_version() {
+    let (page, header) = (text("README.md"), text("include/in656.h"));
+    let number = |part: &str| {
+        let front = format!("#define IN656_VERSION_{part} ");
+        let line = header.lines().find_map(|line| line.strip_prefix(&front));
+        line.expect(part).trim_end_matches('u').to_string()
+    };
+    let [major, minor, patch] = ["MAJOR", "MINOR", "PATCH"].map(number);
+    let version = format!("{major}.{minor}.{patch}");
+    for words in [
+        format!("`in656_{version}_amd64.deb`"),
+        format!("`in656-{version}-linux-x86_64.tar.gz`"),
+        format!("The library has a version, {version}."),
+        format!("`libin656.so.{major}`"),
+    ] {
+        assert!(page.contains(&words), "{words}");
+    }
 }
