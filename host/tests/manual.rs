@@ -141,7 +141,10 @@ fn each_page() {
             let mut words = cited.split(' ');
             let (name, section) = (words.next().unwrap_or(""), words.next().unwrap_or(""));
             let ours = repository("man").join(format!("{name}.{section}"));
-            assert!(ours.is_file() || name == "poll", "{page} cites {cited}");
+            assert!(
+                ours.is_file() || ["poll", "tail"].contains(&name),
+                "{page} cites {cited}"
+            );
         }
         if !has("man") {
             continue;
