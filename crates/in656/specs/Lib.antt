@@ -6,3 +6,4 @@ pub mod Telegrams
 pub mod Logs
 pub mod Gatherers
 pub mod Masters
+pub mod Words

@@ -8,3 +8,4 @@ pub mod log;
 pub mod masters;
 pub mod results;
 pub mod telegrams;
+pub mod words;
