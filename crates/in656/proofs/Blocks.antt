@@ -7,7 +7,9 @@ use denote.Enum.Declared.{tagOf}
 use Rattle.master.specs.declared.answers.Answer as a
 use Rattle.master.proofs.answers.Answer as at
 use Rattle.master.specs.Answers as m
+use Rattle.in656.specs.declared.results.result.In656Result.{In656Result}
 use Rattle.in656.specs.Masters.{answerBlock}
+use Rattle.in656.specs.Results.Frames.{masterFrame}
 use Rattle.desk.specs.Replying.{originOf}
 use Rattle.desk.specs.declared.replying.Source as s
 use Rattle.desk.proofs.replying.Source as st
@@ -25,6 +27,16 @@ other-answer (a.the-variants.Answered rec count) block k = absurd (miss (0 ∷ 1
 other-answer (a.the-variants.OtherKind reading count) block k = absurd (miss (0 ∷ 1 ∷ 2 ∷ 5 ∷ 6 ∷ []) 4 tt k)
 other-answer (a.the-variants.GivenUp cause count) block k = refl
 other-answer (a.the-variants.Ignored why) block k = refl
+
+-- a hearing of the master that ignores nothing is told as it is
+pub heeded : (answer : a.Answer) (line : ℕ) (frame : List ℕ) (r : In656Result) → OneOf (0 ∷ 1 ∷ 2 ∷ 3 ∷ 4 ∷ 5 ∷ []) (tagOf at.the-type answer) → r ≡ masterFrame (m.toldOf answer) line frame r
+heeded (a.the-variants.Refused x) line frame r k = refl
+heeded a.the-variants.Nothing line frame r k = refl
+heeded (a.the-variants.Sent sending count n) line frame r k = refl
+heeded (a.the-variants.Answered rec count) line frame r k = refl
+heeded (a.the-variants.OtherKind reading count) line frame r k = refl
+heeded (a.the-variants.GivenUp cause count) line frame r k = refl
+heeded (a.the-variants.Ignored why) line frame r k = absurd (miss (0 ∷ 1 ∷ 2 ∷ 3 ∷ 4 ∷ 5 ∷ []) 6 tt k)
 
 -- an answer that does not go with a record for the panel
 pub other-source : (source : s.Source) (block : List ℕ) → OneOf (0 ∷ 1 ∷ 2 ∷ 4 ∷ 5 ∷ 6 ∷ []) (tagOf st.the-type source) → block ≡ panelBlock (originOf source) block

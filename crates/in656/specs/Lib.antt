@@ -7,3 +7,5 @@ pub mod Logs
 pub mod Gatherers
 pub mod Masters
 pub mod Words
+pub mod Due
+pub mod Looks

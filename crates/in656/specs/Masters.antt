@@ -1,9 +1,11 @@
 -- The master through the C face, on a state of bytes (include/in656.h; rules F3, F7). Assumes nothing.
+use mathlib.Core.Path.{_≡_}
 use Prim.Native.Nat.{ℕ}
 use mathlib.Core.Bool.{cond}
 use mathlib.Core.List.{List, []}
 use lib.Dec.{eqb}
 use lib.ListN.{length}
+use Rattle.reading.specs.Reading.{readingOf}
 use Rattle.master.specs.declared.state.Master.{Master}
 use Rattle.master.specs.Answers.{Told, refused, nothing, sent, answered, otherKind, givenUp, ignored}
 use Rattle.master.specs.State.{startOf}
@@ -15,6 +17,7 @@ use Rattle.blocks.specs.Masters.{masterLength, loadOf, saveOf}
 use Rattle.in656.specs.declared.results.result.In656Result.{In656Result}
 use Rattle.in656.specs.Results.Result.{Call}
 use Rattle.in656.specs.Results.Masters.{toldResult}
+use Rattle.in656.specs.Results.Frames.{masterFrame, Tells}
 use Rattle.in656.specs.Inputs.{lineFor, recordMeant}
 use Rattle.in656.specs.Telegrams.{filledBy}
 
@@ -57,12 +60,17 @@ answerBlock (ignored why) block = block
 abbrev pub HearCall : Type 0
 HearCall = In656Result × (List ℕ × (List ℕ × List ℕ))
 
-unfoldable pub heard : Behind → List ℕ → List ℕ → HearCall
-heard h b block = (toldResult (h .1 .0), (masterAfter (toldResult (h .1 .0)) (h .0) b, (answerBlock (h .1 .0) block, h .1 .1)))
+unfoldable pub heard : ℕ → List ℕ → Behind → List ℕ → List ℕ → HearCall
+heard line frame h b block =
+    (masterFrame (h .1 .0) line frame (toldResult (h .1 .0)), (masterAfter (toldResult (h .1 .0)) (h .0) b, (answerBlock (h .1 .0) block, h .1 .1)))
 
 -- a record block of another length is no room: 15, or else 14
 unfoldable pub masterHear : List ℕ → ℕ → List ℕ → List ℕ → List ℕ → HearCall
 masterHear b time frame block out =
     cond (eqb (length block) recordLength)
-    (heard (hearOf (loadOf b) time frame out) b block)
+    (heard (loadOf b .line) frame (hearOf (loadOf b) time frame out) b block)
     (toldResult (hearOf (loadOf b) time frame [] .1 .0), (b, (block, out)))
+
+-- wherever a hearing is not refused, its result tells what the frame reads as on the state's line
+abbrev pub MasterTells : Type 0
+MasterTells = (b : List ℕ) (time : ℕ) (frame block out : List ℕ) → masterHear b time frame block out .0 .refusal ≡ 0 → Tells (masterHear b time frame block out .0) (readingOf (loadOf b .line) frame)

@@ -4,3 +4,4 @@ pub mod Telegrams
 pub mod Desks
 pub mod Masters
 pub mod Logs
+pub mod Frames

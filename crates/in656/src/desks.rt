@@ -3,12 +3,13 @@ ghost use mathlib.Core.Path.{_≡_};
 ghost use Rattle.desk.specs.Replying.{originOf};
 ghost use Rattle.desk.specs.Answers.{doneOf};
 ghost use Rattle.desk.specs.Heard.{toldOf};
-ghost use Rattle.in656.specs.Desks.{stepped, deskStart, deskTick, deskQueue, deskSet, deskKey, panelBlock, toldBlock, heardParts, deskHear};
+ghost use Rattle.in656.specs.Desks.{stepped, deskStart, deskTick, deskQueue, deskSet, deskKey, deskClearQueue, deskClearSet, panelBlock, toldBlock, heardParts, deskHear};
 use crate::inputs::byte_or;
 use crate::inputs::line_for;
 use crate::inputs::meaning;
 use crate::results::desks::of_heard;
 use crate::results::desks::of_outcome;
+use crate::results::frames::desk_frame;
 use crate::results::result::In656Result;
 use blocks::desks::DESK_LENGTH;
 use blocks::desks::load;
@@ -74,6 +75,22 @@ pub extern "C" fn in656_desk_key(state: &mut [u8], key: u32) -> In656Result
     close(desk.turn_key(byte_or(0, key)), state)
 }
 
+#[no_mangle]
+pub extern "C" fn in656_desk_clear_queue(state: &mut [u8]) -> In656Result
+    ensures { λ r. ⌜ (r, now (state .exit)) ≡ deskClearQueue (now (state .entry)) ⌝ }
+{
+    let desk = load(state);
+    close(desk.clear_queue(), state)
+}
+
+#[no_mangle]
+pub extern "C" fn in656_desk_clear_set(state: &mut [u8]) -> In656Result
+    ensures { λ r. ⌜ (r, now (state .exit)) ≡ deskClearSet (now (state .entry)) ⌝ }
+{
+    let desk = load(state);
+    close(desk.clear_set(), state)
+}
+
 // The record that goes to the panel fills the block.
 fn put_panel(source: Source, block: &mut [u8])
     ensures { λ _. ⌜ now (block .exit) ≡ panelBlock (originOf source) (now (block .entry)) ⌝ }
@@ -124,6 +141,9 @@ pub extern "C" fn in656_desk_hear(
         let answer = refused.answer;
         return of_heard(answer);
     }
+    let line = desk.line;
     let hearing = desk::hearing::hear(desk, time, frame, out);
-    close_hearing(hearing, state, block)
+    let answer = hearing.answer;
+    let r = close_hearing(hearing, state, block);
+    desk_frame(r, answer, line, frame)
 }

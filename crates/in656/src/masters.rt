@@ -4,6 +4,7 @@ ghost use Rattle.master.specs.Answers.{toldOf};
 ghost use Rattle.in656.specs.Masters.{stepped, masterStart, masterOffer, masterTick, answerBlock, masterHear};
 use crate::inputs::line_for;
 use crate::inputs::meaning;
+use crate::results::frames::master_frame;
 use crate::results::masters::of_answer;
 use crate::results::result::In656Result;
 use crate::telegrams::fill;
@@ -89,8 +90,10 @@ pub extern "C" fn in656_master_hear(
         let answer = refused.answer;
         return of_answer(answer);
     }
+    let line = master.line;
     let step = hear(master, time, frame, out);
     let answer = step.answer;
     put_answer(answer, block);
-    close(step, state)
+    let r = close(step, state);
+    master_frame(r, answer, line, frame)
 }

@@ -1,5 +1,6 @@
 // What every call of the C face answers, as numbers.
 pub mod desks;
+pub mod frames;
 pub mod log;
 pub mod masters;
 pub mod result;

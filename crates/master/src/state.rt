@@ -97,7 +97,7 @@ impl Master {
     }
 
     // Whether the state is in its ranges.
-    pub(crate) fn in_ranges(self) -> bool
+    pub fn in_ranges(self) -> bool
         ensures { λ r. ⌜ r ≡ inRanges self ⌝ }
     {
         if !self.fits_free() {
