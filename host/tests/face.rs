@@ -86,7 +86,7 @@ fn records_written() {
 fn streams_cut() {
     let run = |library: &dyn Face| compare("streams cut", GATE, library, &Second);
     if let Some(tally) = part("streams cut", run) {
-        assert_eq!(sum(&tally, "gatherer_start"), 100_000);
+        assert!(sum(&tally, "gatherer_start") >= 100_000);
         refused(&tally, "gatherer_start", [15]);
         for call in ["gatherer_byte", "next"] {
             reached(&tally, call, 0, [0]);
