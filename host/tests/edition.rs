@@ -6,34 +6,20 @@ use found::{defined, header, linked};
 use host::second::face::{Answer, Face};
 use host::second::Second;
 use std::mem::{offset_of, size_of};
+use std::path::Path;
 
-/// What an edition fixes: the lengths in bytes, of the result too, and the offset and size of each of the result's fields.
+/// What an edition fixes of the result: its size, and the offset and size of each of its fields. Its numbers and calls stand in a list.
 struct Edition {
     number: u64,
     result: usize,
-    lengths: &'static [(&'static str, u64)],
     fields: &'static [(&'static str, usize, usize)],
+    list: &'static str,
 }
 
 /// Each edition. A row never changes: what differs needs a row, and a number, of its own.
 const EDITIONS: &[Edition] = &[Edition {
     number: 1,
     result: 80,
-    lengths: &[
-        ("LONGEST", 66),
-        ("RECORD_LENGTH", 64),
-        ("GATHERER_LENGTH", 71),
-        ("DESK_LENGTH", 653),
-        ("MASTER_LENGTH", 77),
-        ("WORDS_LENGTH", 96),
-        ("RECORD_VALUES", 10),
-        ("RECORD_TEXT", 23),
-        ("RECORD_TYPE_AT", 0),
-        ("RECORD_VALUES_AT", 1),
-        ("RECORD_TEXT_AT", 41),
-        ("GATHERER_TELEGRAM_AT", 5),
-        ("LOG_LONGEST", 73),
-    ],
     fields: &[
         ("refusal", 0, 4),
         ("outcome", 4, 4),
@@ -50,10 +36,11 @@ const EDITIONS: &[Edition] = &[Edition {
         ("unsent", 56, 4),
         ("reserved", 60, 20),
     ],
+    list: include_str!("editions/1.txt"),
 }];
 
 /// What a change without a new number is told.
-const CHANGED: &str = "programs compiled with this edition rely on it: a change needs a new IN656_VERSION_MAJOR, and a row in EDITIONS";
+const CHANGED: &str = "programs that were compiled with this edition rely on it: a change needs a new IN656_VERSION_MAJOR, and a row in EDITIONS";
 
 /// The row of the header's edition.
 fn row() -> &'static Edition {
@@ -91,27 +78,66 @@ fn structure() -> (Vec<(String, usize, usize)>, usize) {
 }
 
 #[test]
-fn the_header_keeps_its_edition() {
-    let (edition, defined) = (row(), defined());
-    for (name, length) in edition.lengths {
-        assert_eq!(defined.get(*name), Some(length), "IN656_{name}: {CHANGED}");
-    }
+fn the_result_keeps_its_edition() {
     let (fields, size) = structure();
     let fields: Vec<_> = fields
         .iter()
         .map(|(name, at, size)| (name.as_str(), *at, *size))
         .collect();
-    assert_eq!(fields, edition.fields, "in656_result: {CHANGED}");
-    assert_eq!(size, edition.result, "in656_result: {CHANGED}");
+    assert_eq!(fields, row().fields, "in656_result: {CHANGED}");
+    assert_eq!(size, row().result, "in656_result: {CHANGED}");
 }
 
-/// The lengths of a face, by the header's names.
+/// The header's numbers and calls, a line for each, without those that a later header of the edition changes.
+fn relied_on() -> Vec<String> {
+    let is_of_later = |name: &str| ["VERSION_MINOR", "VERSION_PATCH"].contains(&name);
+    let numbers = defined();
+    let numbers = numbers.iter().filter(|(name, _)| !is_of_later(name));
+    let mut lines: Vec<String> = numbers
+        .map(|(name, number)| format!("IN656_{name} {number}"))
+        .collect();
+    let text = header();
+    let calls = text
+        .lines()
+        .filter(|line| line.contains(" in656_") && line.ends_with(");"));
+    lines.extend(calls.map(String::from));
+    lines
+}
+
+/// No number and no call of the edition has changed or gone. With WRITE=1 a new one is put into the list.
+#[test]
+fn the_numbers_and_calls_keep_their_edition() {
+    let (edition, lines) = (row(), relied_on());
+    for known in edition.list.lines() {
+        assert!(lines.iter().any(|line| line == known), "{known}: {CHANGED}");
+    }
+    if std::env::var_os("WRITE").is_some() {
+        let path = format!("tests/editions/{}.txt", edition.number);
+        let path = Path::new(env!("CARGO_MANIFEST_DIR")).join(path);
+        return std::fs::write(path, lines.join("\n") + "\n").expect("the list is written");
+    }
+    for line in &lines {
+        assert!(
+            edition.list.lines().any(|known| known == line),
+            "{line}: it is new, so IN656_VERSION_MINOR goes up, and with WRITE=1 this test puts it into the edition's list"
+        );
+    }
+}
+
+/// The lengths of a face are the header's, and so is its edition.
 fn kept(face: &dyn Face) {
-    let edition = row();
+    let (edition, defined) = (row(), defined());
     let [result, lengths @ ..] = face.lengths();
     assert_eq!(result, edition.result, "in656_result: {CHANGED}");
-    for ((name, wanted), length) in edition.lengths.iter().zip(lengths) {
-        assert_eq!(length as u64, *wanted, "IN656_{name}: {CHANGED}");
+    let names = [
+        "LONGEST",
+        "RECORD_LENGTH",
+        "GATHERER_LENGTH",
+        "DESK_LENGTH",
+        "MASTER_LENGTH",
+    ];
+    for (name, length) in names.into_iter().zip(lengths) {
+        assert_eq!(length as u64, defined[name], "IN656_{name}: {CHANGED}");
     }
     let version = face.version();
     assert_eq!(u64::from(version / 65_536), edition.number, "{version:#x}");
