@@ -1,6 +1,6 @@
 //! Sequences of calls of desk and master by both, mostly of exchanges that fit together, with
 //! lost and damaged frames, short rooms, damaged states and clocks that jump. Between them both are looked at, and what is
-//! due is asked: rules E1 to E12, K1 to K5, M1 to M18, D1 to D16.
+//! due is asked: rules E1 to E12, K1 to K6, M1 to M19, D1 to D19.
 
 use super::states::{of_desk, of_master};
 use super::{dues, Lent, Pair};
