@@ -25,11 +25,11 @@ use Rattle.records.specs.declared.answers.Reading as e
 use Rattle.in656.specs.Words.{Table, wordsOf, refusalTable, deskTable, masterTable, wordsLength, Said, Room, Apart, EachRefusal, EachNumber, EachDone, EachHeard, EachTold}
 
 -- the test holds of each element, with its place from i on
-abbrev everyFrom : {A : Type 0} → (ℕ → A → Bool) → ℕ → List A → Bool
+abbrev pub everyFrom : {A : Type 0} → (ℕ → A → Bool) → ℕ → List A → Bool
 everyFrom t i [] = true
 everyFrom t i (x ∷ xs) = both (t i x) (everyFrom t (suc i) xs)
 
-at-place : {A : Type 0} (t : ℕ → A → Bool) (d : A) (i : ℕ) (xs : List A) (n : ℕ) → everyFrom t i xs ≡ true → n < length xs → t (n + i) (getD xs n d) ≡ true
+pub at-place : {A : Type 0} (t : ℕ → A → Bool) (d : A) (i : ℕ) (xs : List A) (n : ℕ) → everyFrom t i xs ≡ true → n < length xs → t (n + i) (getD xs n d) ≡ true
 at-place t d i [] n f l = let z : ⊥ = omega arith in absurd z
 at-place t d i (x ∷ xs) zero f l = rw (zero-add i) (both-left (t i x) (everyFrom t (suc i) xs) f)
 at-place t d i (x ∷ xs) (suc n) f l = rw (suc-add n i, ← (add-suc n i)) (at-place t d (suc i) xs n (both-right (t i x) (everyFrom t (suc i) xs) f) (omega arith))

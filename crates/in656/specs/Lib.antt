@@ -9,3 +9,5 @@ pub mod Masters
 pub mod Words
 pub mod Due
 pub mod Looks
+pub mod Packets
+pub mod Words

@@ -8,6 +8,7 @@ pub mod lengths;
 pub mod log;
 pub mod looks;
 pub mod masters;
+pub mod packets;
 pub mod results;
 pub mod telegrams;
 pub mod words;
