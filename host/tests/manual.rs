@@ -2,7 +2,10 @@
 
 mod machine;
 
-use machine::{has, repository, text};
+use host::comparing::linked::library;
+use host::comparing::stack::most;
+use machine::{has, repository, skipped, text};
+use std::collections::BTreeMap;
 use std::fs;
 use std::process::Command;
 
@@ -23,19 +26,13 @@ fn functions(header: &str) -> Vec<(&str, &str, &str)> {
     found
 }
 
-/// Each function stands in the manual as the header declares it, and each but those of lengths in the table of stacks with
-/// a number.
+/// Each function stands in the manual as the header declares it.
 #[test]
 fn each_function() {
     let (header, page) = (text("include/in656.h"), text("man/in656.3"));
     let functions = functions(&header);
     assert!(functions.len() > 30);
     assert_eq!(page.matches("\n.Fo ").count(), functions.len());
-    let (_, stacks) = page
-        .split_once(".It Sy call Ta Sy bytes\n")
-        .expect("a table");
-    let (stacks, _) = stacks.split_once(".El\n").expect("its end");
-    let mut rows = stacks.lines();
     for (gives, name, parameters) in functions {
         let shown = match parameters {
             "void" => "void".into(),
@@ -43,15 +40,36 @@ fn each_function() {
         };
         let synopsis = format!(".Ft {gives}\n.Fo {name}\n.Fa {shown}\n.Fc\n");
         assert!(page.contains(&synopsis), "{synopsis}");
-        if gives == "size_t" {
-            continue;
-        }
-        let row = rows.next().expect(name);
-        let bytes = row.strip_prefix(&format!(".It Fn {name} Ta "));
-        let bytes: Option<u32> = bytes.and_then(|bytes| bytes.parse().ok());
-        assert!(bytes.is_some_and(|bytes| bytes <= 8192), "{row}");
     }
-    assert_eq!(rows.next(), None);
+}
+
+/// Each function but those of lengths stands in the table of stacks, and needs no more than stands there, on the machine of
+/// which the table is.
+#[test]
+fn the_stack() {
+    let (header, page) = (text("include/in656.h"), text("man/in656.3"));
+    let table = page.split_once(".It Sy call Ta Sy bytes\n");
+    let (table, _) = table
+        .and_then(|(_, rest)| rest.split_once(".El\n"))
+        .expect("a table");
+    let row = |line: &str| {
+        let (name, bytes) = line.strip_prefix(".It Fn in656_")?.split_once(" Ta ")?;
+        Some((name.to_string(), bytes.parse().ok()?))
+    };
+    let table: Vec<(String, usize)> = table.lines().map(|line| row(line).expect(line)).collect();
+    let functions = functions(&header).into_iter().filter(|f| f.0 != "size_t");
+    let names = functions.filter_map(|(_, name, _)| name.strip_prefix("in656_"));
+    assert!(table.iter().map(|(name, _)| name).eq(names));
+    if cfg!(not(target_arch = "x86_64")) || library().is_err() {
+        return skipped("the table of stacks is of the library for x86-64");
+    }
+    let table: BTreeMap<String, usize> = table.into_iter().collect();
+    for (call, bytes) in most(1, 20) {
+        assert!(
+            bytes <= table[call],
+            "in656_{call} needs {bytes}: make stack measures it"
+        );
+    }
 }
 
 /// Each constant stands in the manual with its number, and the version with its name alone.

@@ -34,6 +34,7 @@ fn the_programs_of_the_host() {
         ),
         (env!("CARGO_BIN_EXE_losses"), "", "losses PROGRAM FILE.svg"),
         (env!("CARGO_BIN_EXE_samples"), "", "samples FOLDER"),
+        (env!("CARGO_BIN_EXE_stack"), "x", "stack [CHUNKS [DIVIDED]]"),
     ] {
         let mut program = Command::new(program);
         let output = program.args(words.split_whitespace()).output();
