@@ -1,5 +1,5 @@
 //! Compares the built program `scenes` with the second version of the two ends: rules
-//! E1 to E12, M1 to M18 and D1 to D16, and docs/SCENES.md for the rows.
+//! E1 to E12, K6, M1 to M19 and D1 to D19, and docs/SCENES.md for the rows.
 
 use host::making::random::Random;
 use host::making::scripts::script;
@@ -53,7 +53,7 @@ fn made_scripts() {
 fn made_scripts_reach() {
     let mut random = Random::seeded(1_000);
     let texts: String = (1..=3)
-        .map(|line| run(&script(&mut random, line, 20_000)))
+        .map(|line| run(&script(&mut random, line, 40_000)))
         .collect();
     for what in [
         "handled, requested",
@@ -100,6 +100,12 @@ fn made_scripts_reach() {
         "ignored, no 4",
         "ignored, no 6",
         "ignored, no 7",
+        "desk clear_queue\n  done; line good",
+        "desk clear_set\n  done; line lost",
+        "due never; line lost",
+        "due after 0; line good",
+        "due after 1",
+        "due after 28000; line good",
         "  no 12 0",
         "  no 13 0",
         "  no 14 0",
@@ -127,7 +133,7 @@ fn answers_are_read() {
             };
             let (row, answer) = (Row { text }, answer.trim());
             let again = match (row.word(0), row.word(1)) {
-                (_, "alter" | "show") => continue,
+                (_, "alter" | "show" | "due") => continue,
                 ("master", _) => telling_in(answer).map(|(did, sent)| told(&did) + &output(&sent)),
                 (_, "tick") => ticked_in(answer).map(ticked),
                 (_, "hear") => hearing_in(answer).map(hearing),

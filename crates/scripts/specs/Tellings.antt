@@ -2,3 +2,4 @@
 pub mod Sources
 pub mod Desks
 pub mod Masters
+pub mod Due

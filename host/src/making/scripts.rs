@@ -12,7 +12,7 @@ use crate::second::script::Bench;
 use crate::second::words::{in_row, shown};
 
 /// Rows that name no call: comments, and mistyped ones.
-const UNNAMED: [&str; 24] = [
+const UNNAMED: [&str; 27] = [
     "# nothing",
     "",
     "desk tikc 5",
@@ -37,6 +37,9 @@ const UNNAMED: [&str; 24] = [
     "master hear 5 66- <08A0AAA5>",
     "master alter count O",
     "elapsed 1 +2",
+    "desk due 5s",
+    "master due -5",
+    "master clear_set",
 ];
 
 /// A script in the making, and the bench that has run it so far.
@@ -208,12 +211,18 @@ impl Maker<'_> {
             89 | 90 => format!("desk key {}", in_row(&[self.random.one_of(b"AXYAXYB ")])),
             91..=93 => "desk show".into(),
             94..=96 => "master show".into(),
-            97 => format!(
+            97 => match self.random.below(6) {
+                0 => "desk clear_queue".into(),
+                1 => "desk clear_set".into(),
+                2 | 3 => format!("desk due {now}"),
+                _ => format!("master due {now}"),
+            },
+            98 if self.random.one_in(4) => format!(
                 "elapsed {} {}",
                 self.random.draw() as u32,
                 self.random.draw() as u32
             ),
-            98 if self.random.one_in(8) => self.alter(),
+            98 if self.random.one_in(6) => self.alter(),
             99 if self.random.one_in(2) => return self.start(line),
             _ => UNNAMED[self.random.below(UNNAMED.len())].into(),
         };

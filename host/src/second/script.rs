@@ -6,7 +6,7 @@ use crate::second::desk::Desk;
 use crate::second::master::Master;
 use crate::second::records::Record;
 use crate::second::words::{
-    desk_whole, done, hearing, line, master_whole, meant, output, ticked, told,
+    desk_whole, done, due, hearing, line, master_whole, meant, output, ticked, told,
 };
 
 /// One desk and one master, and what each sent last.
@@ -41,7 +41,7 @@ impl Row<'_> {
     /// Whether the words that a row's call takes as numbers have nothing but digits.
     fn well_numbered(&self) -> bool {
         let numbers: Vec<usize> = match (self.word(0), self.word(1)) {
-            ("desk", "start" | "tick") => vec![2],
+            ("desk", "start" | "tick" | "due") | ("master", "due") => vec![2],
             ("desk", "hear") | ("master", "start" | "tick" | "hear") => vec![2, 3],
             ("desk", "queue" | "set") => (3..13).collect(),
             ("master", "offer") => [2, 3].into_iter().chain(5..15).collect(),
@@ -120,6 +120,9 @@ impl Bench {
             "queue" => done(desk.queue(row.record(2))),
             "set" => done(desk.set(row.record(2))),
             "key" => done(desk.turn_key(meant(row.rest(2)).first().copied().unwrap_or(0))),
+            "clear_queue" => done(desk.clear_queue()),
+            "clear_set" => done(desk.clear_set()),
+            "due" => due(desk.due(row.number(2))),
             "hear" => {
                 let (now, room) = (row.number(2), row.number(3) as usize);
                 let answer = desk.hear(now, room, &meant(row.rest(4)));
@@ -159,6 +162,7 @@ impl Bench {
             "tick" => master.tick(now, room),
             "offer" => master.offer(now, room, row.record(4)),
             "hear" => master.hear(now, room, &meant(row.rest(4))),
+            "due" => return format!("  {}{}\n", due(master.due(now)), self.master_state()),
             "show" => return format!("  {}{}\n", master_whole(master), self.master_state()),
             "alter" => {
                 let value = row.small(3);

@@ -128,6 +128,15 @@ pub fn ticked(answer: Result<bool, Refusal>) -> String {
     }
 }
 
+/// What is due of an end.
+pub fn due(answer: Result<Option<u32>, Refusal>) -> String {
+    match answer {
+        Ok(Some(after)) => format!("due after {after}"),
+        Ok(None) => "due never".into(),
+        Err(refusal) => done(Err(refusal)),
+    }
+}
+
 pub fn told(told: &Told) -> String {
     let contents = |heard: &Result<Record, (u8, usize)>| match heard {
         Ok(record) => shown(record),

@@ -10,13 +10,15 @@ use Rattle.desk.specs.declared.state.Desk.{Desk}
 use Rattle.desk.specs.Answers.{Done}
 use Rattle.desk.specs.State.{startOf}
 use Rattle.desk.specs.Panel.{tickOf, queueOf, setOf, keyOf}
+use Rattle.desk.specs.Clearing.{clearQueueOf, clearSetOf}
+use Rattle.desk.specs.Due.{dueOf}
 use Rattle.desk.specs.Hearing.{Hearing, hearOf}
 use Rattle.scripts.specs.declared.desks.calls.Quiet as q
 use Rattle.scripts.specs.declared.desks.calls.Field.{Field}
 use Rattle.scripts.specs.declared.desks.calls.Call as c
 use Rattle.scripts.specs.Desks.Calls.{callOf}
 use Rattle.scripts.specs.Desks.Altering.{alteredOf}
-use Rattle.scripts.specs.Desks.Printing.{steppedText, heardText, alteredText, wholeText}
+use Rattle.scripts.specs.Desks.Printing.{steppedText, askedText, heardText, alteredText, wholeText}
 
 -- the desk behind a row, and the text that the row prints
 abbrev pub Row : Type 0
@@ -44,6 +46,8 @@ stepOf d q.the-variants.Tick row = tickOf d (wordValue 2 row)
 stepOf d q.the-variants.Queue row = queueOf d (recordAt 2 row)
 stepOf d q.the-variants.Set row = setOf d (recordAt 2 row)
 stepOf d q.the-variants.Key row = keyOf d (keyAt row)
+stepOf d q.the-variants.ClearQueue row = clearQueueOf d
+stepOf d q.the-variants.ClearSet row = clearSetOf d
 
 -- a hearing: time, room and frame are the words behind the call, and the output holds # all over before it
 unfoldable pub hearRow : Desk → List ℕ → Row
@@ -56,11 +60,16 @@ alteringRow row d = (d, alteredText row (d .good) (d .last .0) (d .queued))
 abbrev pub alterRow : Desk → Field → List ℕ → Row
 alterRow d field row = alteringRow row (alteredOf d field (wordValue 3 row))
 
+-- what is due at a time: the desk stays as it is
+unfoldable pub dueRow : Desk → List ℕ → Row
+dueRow d row = (d, askedText row (dueOf d (wordValue 2 row)) (d .good) (d .last .0) (d .queued))
+
 -- a row that shows the state, and one that names no call, leave the desk as it is
 abbrev pub callRow : Desk → c.Call → List ℕ → Row
 callRow d (c.the-variants.Quiet quiet) row = steppedRow row (stepOf d quiet row)
 callRow d c.the-variants.Hear row = hearRow d row
 callRow d (c.the-variants.Alter field) row = alterRow d field row
+callRow d c.the-variants.Due row = dueRow d row
 callRow d c.the-variants.Show row = (d, wholeText row d)
 callRow d c.the-variants.Unknown row = (d, unknownText row)
 

@@ -33,7 +33,10 @@ callNumbered n field =
     (cond (eqb n 5) c.the-variants.Hear
     (cond (eqb n 6) (alterNumbered field)
     (cond (eqb n 7) c.the-variants.Show
-    c.the-variants.Unknown)))))))
+    (cond (eqb n 8) (c.the-variants.Quiet q.the-variants.ClearQueue)
+    (cond (eqb n 9) (c.the-variants.Quiet q.the-variants.ClearSet)
+    (cond (eqb n 10) c.the-variants.Due
+    c.the-variants.Unknown))))))))))
 
 -- the words that a call takes as numbers are numbers: a line, a time, a room, what is put into a field, the values of a record
 abbrev pub quietNumbered : q.Quiet → List ℕ → Bool
@@ -42,11 +45,14 @@ quietNumbered q.the-variants.Tick row = areNumbers 2 3 row
 quietNumbered q.the-variants.Queue row = areNumbers 3 13 row
 quietNumbered q.the-variants.Set row = areNumbers 3 13 row
 quietNumbered q.the-variants.Key row = true
+quietNumbered q.the-variants.ClearQueue row = true
+quietNumbered q.the-variants.ClearSet row = true
 
 abbrev pub wellNumbered : Call → List ℕ → Bool
 wellNumbered (c.the-variants.Quiet quiet) row = quietNumbered quiet row
 wellNumbered c.the-variants.Hear row = areNumbers 2 4 row
 wellNumbered (c.the-variants.Alter field) row = areNumbers 3 4 row
+wellNumbered c.the-variants.Due row = areNumbers 2 3 row
 wellNumbered c.the-variants.Show row = true
 wellNumbered c.the-variants.Unknown row = true
 
@@ -58,6 +64,6 @@ unfoldable pub callOf : List ℕ → Call
 callOf row =
     namedBy
     (callNumbered
-    (wordPlace (codes "start tick queue set key hear alter show") 8 (wordOf 1 row))
+    (wordPlace (codes "start tick queue set key hear alter show clear_queue clear_set due") 11 (wordOf 1 row))
     (wordPlace (codes "line good last kept queued key") 6 (wordOf 2 row)))
     row

@@ -8,9 +8,11 @@ use Rattle.desk.specs.declared.waiting.Waiting.{Waiting}
 use Rattle.desk.specs.declared.state.Desk.{Desk}
 use Rattle.desk.specs.Answers.{Done}
 use Rattle.desk.specs.Heard.{Told}
+use Rattle.clock.specs.Due.{When}
 use Rattle.text.specs.Items.{recordText}
 use Rattle.scripts.specs.Printing.{beganText, numberText, endText, firstText, outputText}
 use Rattle.scripts.specs.Tellings.Desks.{doneText, toldText}
+use Rattle.scripts.specs.Tellings.Due.{dueText}
 
 -- what every row ends with: line, last number taken, queued records
 abbrev pub numbersText : Bool → ℕ → ℕ → List ℕ
@@ -19,6 +21,10 @@ numbersText good last queued = endText good (codes ", last ") last (codes ", que
 -- a call that hears nothing: what it answers, and the state's numbers
 unfoldable pub steppedText : List ℕ → Done → Bool → ℕ → ℕ → List ℕ
 steppedText row did good last queued = beganText row ++ (doneText did ++ numbersText good last queued)
+
+-- what is due, and the state's numbers
+unfoldable pub askedText : List ℕ → When → Bool → ℕ → ℕ → List ℕ
+askedText row due good last queued = beganText row ++ (dueText due ++ numbersText good last queued)
 
 -- a hearing: what it answers, what its output holds, and the state's numbers
 unfoldable pub heardText : List ℕ → Told → List ℕ → Bool → ℕ → ℕ → List ℕ

@@ -10,12 +10,13 @@ use Rattle.master.specs.Answers.{Told}
 use Rattle.master.specs.State.{startOf}
 use Rattle.master.specs.Sending.{Behind, offerOf, tickOf}
 use Rattle.master.specs.Hearing.{hearOf}
+use Rattle.master.specs.Due.{dueOf}
 use Rattle.scripts.specs.declared.masters.calls.Sends as s
 use Rattle.scripts.specs.declared.masters.calls.Field.{Field}
 use Rattle.scripts.specs.declared.masters.calls.Call as c
 use Rattle.scripts.specs.Masters.Calls.{callOf}
 use Rattle.scripts.specs.Masters.Altering.{alteredOf}
-use Rattle.scripts.specs.Masters.Printing.{didText, alteredText, wholeText}
+use Rattle.scripts.specs.Masters.Printing.{didText, askedText, alteredText, wholeText}
 
 -- the master behind a row, and the text that the row prints
 abbrev pub Row : Type 0
@@ -53,11 +54,16 @@ alteringRow row m = (m, alteredText row (m .good) (m .number .0) (m .count))
 abbrev pub alterRow : Master → Field → List ℕ → Row
 alterRow m field row = alteringRow row (alteredOf m field (smallAt 3 row))
 
+-- what is due at a time: the master stays as it is
+unfoldable pub dueRow : Master → List ℕ → Row
+dueRow m row = (m, askedText row (dueOf m (wordValue 2 row)) (m .good) (m .number .0) (m .count))
+
 -- a row that shows the state, and one that names no call, leave the master as it is
 abbrev pub callRow : Master → c.Call → List ℕ → Row
 callRow m c.the-variants.Start row = startRow row
 callRow m (c.the-variants.Sends sends) row = makeRow m sends row
 callRow m (c.the-variants.Alter field) row = alterRow m field row
+callRow m c.the-variants.Due row = dueRow m row
 callRow m c.the-variants.Show row = (m, wholeText row m)
 callRow m c.the-variants.Unknown row = (m, unknownText row)
 

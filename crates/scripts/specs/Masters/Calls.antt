@@ -30,7 +30,8 @@ callNumbered n field =
     (cond (eqb n 3) (c.the-variants.Sends s.the-variants.Hear)
     (cond (eqb n 4) (alterNumbered field)
     (cond (eqb n 5) c.the-variants.Show
-    c.the-variants.Unknown)))))
+    (cond (eqb n 6) c.the-variants.Due
+    c.the-variants.Unknown))))))
 
 -- the words that a call takes as numbers are numbers: a line, a time, a room, what is put into a field, the values of a record
 abbrev pub sendsNumbered : s.Sends → List ℕ → Bool
@@ -42,6 +43,7 @@ abbrev pub wellNumbered : Call → List ℕ → Bool
 wellNumbered c.the-variants.Start row = areNumbers 2 4 row
 wellNumbered (c.the-variants.Sends sends) row = both (areNumbers 2 4 row) (sendsNumbered sends row)
 wellNumbered (c.the-variants.Alter field) row = areNumbers 3 4 row
+wellNumbered c.the-variants.Due row = areNumbers 2 3 row
 wellNumbered c.the-variants.Show row = true
 wellNumbered c.the-variants.Unknown row = true
 
@@ -53,6 +55,6 @@ unfoldable pub callOf : List ℕ → Call
 callOf row =
     namedBy
     (callNumbered
-    (wordPlace (codes "start tick offer hear alter show") 6 (wordOf 1 row))
+    (wordPlace (codes "start tick offer hear alter show due") 7 (wordOf 1 row))
     (wordPlace (codes "line number count operation") 4 (wordOf 2 row)))
     row

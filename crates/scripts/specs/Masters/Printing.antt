@@ -7,8 +7,10 @@ use Rattle.laws.specs.Text.{codes}
 use Rattle.records.specs.declared.records.Record.{Record}
 use Rattle.master.specs.declared.state.Master.{Master}
 use Rattle.master.specs.Answers.{Told}
+use Rattle.clock.specs.Due.{When}
 use Rattle.text.specs.Items.{recordText}
 use Rattle.scripts.specs.Printing.{beganText, numberText, endText, outputText}
+use Rattle.scripts.specs.Tellings.Due.{dueText}
 use Rattle.scripts.specs.Tellings.Masters.{toldText}
 
 -- what every row ends with: line, number to send, sending count
@@ -18,6 +20,10 @@ numbersText good number count = endText good (codes ", number ") number (codes "
 -- what a call did, what its output holds, and the state's numbers
 unfoldable pub didText : List ℕ → Told → List ℕ → Bool → ℕ → ℕ → List ℕ
 didText row told sent good number count = beganText row ++ (toldText told ++ (outputText sent ++ numbersText good number count))
+
+-- what is due, and the state's numbers
+unfoldable pub askedText : List ℕ → When → Bool → ℕ → ℕ → List ℕ
+askedText row due good number count = beganText row ++ (dueText due ++ numbersText good number count)
 
 -- an altered state
 unfoldable pub alteredText : List ℕ → Bool → ℕ → ℕ → List ℕ

@@ -4,13 +4,14 @@ ghost use Rattle.desk.specs.Answers.{doneOf};
 ghost use Rattle.desk.specs.Heard.{toldOf};
 ghost use Rattle.desk.specs.Hearing.{hearOf};
 ghost use Rattle.text.specs.Fields.{wordValue};
-ghost use Rattle.scripts.specs.Desks.Behind.{printed, steppedRow, heardRow, stepOf, keyAt, hearRow, alterRow, callRow, onRow};
+ghost use Rattle.scripts.specs.Desks.Behind.{printed, steppedRow, heardRow, stepOf, keyAt, hearRow, alterRow, dueRow, callRow, onRow};
 use crate::desks::altering::altered;
 use crate::desks::calls::Call;
 use crate::desks::calls::Field;
 use crate::desks::calls::Quiet;
 use crate::desks::calls::call_of;
 use crate::desks::printing::put_altered;
+use crate::desks::printing::put_asked;
 use crate::desks::printing::put_hearing;
 use crate::desks::printing::put_stepped;
 use crate::desks::printing::put_whole;
@@ -51,6 +52,8 @@ fn step(d: Desk, quiet: Quiet, row: &[u8]) -> Step
         Quiet::Queue => d.queue(record(row, 2)),
         Quiet::Set => d.set(record(row, 2)),
         Quiet::Key => d.turn_key(key_at(row)),
+        Quiet::ClearQueue => d.clear_queue(),
+        Quiet::ClearSet => d.clear_set(),
     }
 }
 
@@ -101,6 +104,16 @@ fn alter(d: Desk, field: Field, row: &[u8], out: &mut [u8]) -> Printed
     Printed { desk, length }
 }
 
+// What is due, asked of a desk that stays as it is.
+fn ask(d: Desk, row: &[u8], out: &mut [u8]) -> Printed
+    ensures { λ r. ⌜ (r .desk, (r .length, now (out .exit))) ≡ printed (dueRow d (now (row .entry))) (now (out .entry)) ⌝ }
+{
+    let due = d.due(word_value(row, 2));
+    let last = d.last;
+    let length = put_asked(out, row, due, d.good, last.0, d.queued);
+    Printed { desk: d, length }
+}
+
 fn on_call(d: Desk, call: Call, row: &[u8], out: &mut [u8]) -> Printed
     ensures { λ r. ⌜ (r .desk, (r .length, now (out .exit))) ≡ printed (callRow d call (now (row .entry))) (now (out .entry)) ⌝ }
 {
@@ -108,6 +121,7 @@ fn on_call(d: Desk, call: Call, row: &[u8], out: &mut [u8]) -> Printed
         Call::Quiet(quiet) => stepped(step(d, quiet, row), row, out),
         Call::Hear => hear(d, row, out),
         Call::Alter(field) => alter(d, field, row, out),
+        Call::Due => ask(d, row, out),
         Call::Show => Printed {
             desk: d,
             length: put_whole(out, row, d),

@@ -11,6 +11,8 @@ pub enum Quiet {
     Queue,
     Set,
     Key,
+    ClearQueue,
+    ClearSet,
 }
 
 // The numbers of the state that a row may alter.
@@ -27,6 +29,7 @@ pub enum Call {
     Quiet(Quiet),
     Hear,
     Alter(Field),
+    Due,
     Show,
     Unknown,
 }
@@ -59,6 +62,9 @@ fn call_numbered(n: usize, field: usize) -> Call
         5 => Call::Hear,
         6 => alter_numbered(field),
         7 => Call::Show,
+        8 => Call::Quiet(Quiet::ClearQueue),
+        9 => Call::Quiet(Quiet::ClearSet),
+        10 => Call::Due,
         _ => Call::Unknown,
     }
 }
@@ -73,6 +79,8 @@ fn quiet_numbered(quiet: Quiet, row: &[u8]) -> bool
         Quiet::Queue => are_numbers(row, 3, 13),
         Quiet::Set => are_numbers(row, 3, 13),
         Quiet::Key => true,
+        Quiet::ClearQueue => true,
+        Quiet::ClearSet => true,
     }
 }
 
@@ -84,6 +92,7 @@ fn well_numbered(call: Call, row: &[u8]) -> bool
         Call::Quiet(quiet) => quiet_numbered(quiet, row),
         Call::Hear => are_numbers(row, 2, 4),
         Call::Alter(_) => are_numbers(row, 3, 4),
+        Call::Due => are_numbers(row, 2, 3),
         Call::Show => true,
         Call::Unknown => true,
     }
@@ -93,7 +102,12 @@ fn well_numbered(call: Call, row: &[u8]) -> bool
 pub fn call_of(row: &[u8]) -> Call
     ensures { λ r. ⌜ r ≡ callOf (now (row .entry)) ⌝ }
 {
-    let n = named(row, 1, b"start tick queue set key hear alter show", 8);
+    let n = named(
+        row,
+        1,
+        b"start tick queue set key hear alter show clear_queue clear_set due",
+        11,
+    );
     let field = named(row, 2, b"line good last kept queued key", 6);
     let call = call_numbered(n, field);
     if well_numbered(call, row) {

@@ -1,9 +1,10 @@
 // What a row of the desk prints.
 ghost use mathlib.Core.Path.{_≡_};
 ghost use Rattle.text.specs.Putting.{puts};
+ghost use Rattle.clock.specs.Due.{whenOf};
 ghost use Rattle.desk.specs.Answers.{doneOf};
 ghost use Rattle.desk.specs.Heard.{toldOf};
-ghost use Rattle.scripts.specs.Desks.Printing.{numbersText, steppedText, heardText, alteredText, startsText, wantedText, waitingText, queueText, wholeText};
+ghost use Rattle.scripts.specs.Desks.Printing.{numbersText, steppedText, askedText, heardText, alteredText, startsText, wantedText, waitingText, queueText, wholeText};
 use crate::printing::begin;
 use crate::printing::end;
 use crate::printing::first;
@@ -12,6 +13,8 @@ use crate::printing::output;
 use crate::printing::put_behind;
 use crate::tellings::desks::put_heard;
 use crate::tellings::desks::put_outcome;
+use crate::tellings::due::put_due;
+use clock::due::Due;
 use desk::answers::Outcome;
 use desk::heard::Heard;
 use desk::state::Desk;
@@ -48,6 +51,15 @@ pub fn put_stepped(
 {
     let a = begin(out, row);
     let b = put_outcome(out, a, answer);
+    put_numbers(out, b, good, last, queued)
+}
+
+// What is due, and the state's numbers.
+pub fn put_asked(out: &mut [u8], row: &[u8], due: Due, good: bool, last: u8, queued: usize) -> usize
+    ensures { λ r. ⌜ (r, now (out .exit)) ≡ puts (askedText (now (row .entry)) (whenOf due) good last queued) 0 (now (out .entry)) ⌝ }
+{
+    let a = begin(out, row);
+    let b = put_due(out, a, due);
     put_numbers(out, b, good, last, queued)
 }
 

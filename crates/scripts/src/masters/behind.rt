@@ -5,13 +5,14 @@ ghost use Rattle.master.specs.Answers.{toldOf};
 ghost use Rattle.master.specs.Hearing.{hearOf};
 ghost use Rattle.text.specs.Fields.{wordValue};
 ghost use Rattle.scripts.specs.Meanings.{bytesAt};
-ghost use Rattle.scripts.specs.Masters.Behind.{printed, didRow, startRow, madeOf, makeRow, alterRow, callRow, onRow};
+ghost use Rattle.scripts.specs.Masters.Behind.{printed, didRow, startRow, madeOf, makeRow, alterRow, dueRow, callRow, onRow};
 use crate::masters::altering::altered;
 use crate::masters::calls::Call;
 use crate::masters::calls::Field;
 use crate::masters::calls::Sends;
 use crate::masters::calls::call_of;
 use crate::masters::printing::put_altered;
+use crate::masters::printing::put_asked;
 use crate::masters::printing::put_did;
 use crate::masters::printing::put_whole;
 use crate::meanings::meant;
@@ -94,6 +95,16 @@ fn alter(m: Master, field: Field, row: &[u8], out: &mut [u8]) -> Printed
     Printed { master, length }
 }
 
+// What is due, asked of a master that stays as it is.
+fn ask(m: Master, row: &[u8], out: &mut [u8]) -> Printed
+    ensures { λ r. ⌜ (r .master, (r .length, now (out .exit))) ≡ printed (dueRow m (now (row .entry))) (now (out .entry)) ⌝ }
+{
+    let due = m.due(word_value(row, 2));
+    let to_send = m.number;
+    let length = put_asked(out, row, due, m.good, to_send.0, m.count);
+    Printed { master: m, length }
+}
+
 fn on_call(m: Master, call: Call, row: &[u8], out: &mut [u8]) -> Printed
     ensures { λ r. ⌜ (r .master, (r .length, now (out .exit))) ≡ printed (callRow m call (now (row .entry))) (now (out .entry)) ⌝ }
 {
@@ -101,6 +112,7 @@ fn on_call(m: Master, call: Call, row: &[u8], out: &mut [u8]) -> Printed
         Call::Start => start(row, out),
         Call::Sends(sends) => make_row(m, sends, row, out),
         Call::Alter(field) => alter(m, field, row, out),
+        Call::Due => ask(m, row, out),
         Call::Show => Printed {
             master: m,
             length: put_whole(out, row, m),

@@ -23,6 +23,7 @@ pub enum Call {
     Start,
     Sends(Sends),
     Alter(Field),
+    Due,
     Show,
     Unknown,
 }
@@ -51,6 +52,7 @@ fn call_numbered(n: usize, field: usize) -> Call
         3 => Call::Sends(Sends::Hear),
         4 => alter_numbered(field),
         5 => Call::Show,
+        6 => Call::Due,
         _ => Call::Unknown,
     }
 }
@@ -74,6 +76,7 @@ fn well_numbered(call: Call, row: &[u8]) -> bool
         Call::Start => are_numbers(row, 2, 4),
         Call::Sends(sends) => are_numbers(row, 2, 4) && sends_numbered(sends, row),
         Call::Alter(_) => are_numbers(row, 3, 4),
+        Call::Due => are_numbers(row, 2, 3),
         Call::Show => true,
         Call::Unknown => true,
     }
@@ -83,7 +86,7 @@ fn well_numbered(call: Call, row: &[u8]) -> bool
 pub fn call_of(row: &[u8]) -> Call
     ensures { λ r. ⌜ r ≡ callOf (now (row .entry)) ⌝ }
 {
-    let n = named(row, 1, b"start tick offer hear alter show", 6);
+    let n = named(row, 1, b"start tick offer hear alter show due", 7);
     let field = named(row, 2, b"line number count operation", 4);
     let call = call_numbered(n, field);
     if well_numbered(call, row) {

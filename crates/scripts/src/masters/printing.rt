@@ -1,15 +1,18 @@
 // What a row of the master prints.
 ghost use mathlib.Core.Path.{_≡_};
 ghost use Rattle.text.specs.Putting.{puts};
+ghost use Rattle.clock.specs.Due.{whenOf};
 ghost use Rattle.master.specs.Answers.{toldOf};
-ghost use Rattle.scripts.specs.Masters.Printing.{numbersText, didText, alteredText, operationText, startsText, busyText, wholeText};
+ghost use Rattle.scripts.specs.Masters.Printing.{numbersText, didText, askedText, alteredText, operationText, startsText, busyText, wholeText};
 use crate::printing::begin;
 use crate::printing::end;
 use crate::printing::number;
 use crate::printing::output;
 use crate::printing::put_behind;
 use crate::printing::put_either;
+use crate::tellings::due::put_due;
 use crate::tellings::masters::put_answer;
+use clock::due::Due;
 use master::answers::Answer;
 use master::state::Master;
 use records::records::Record;
@@ -46,6 +49,15 @@ pub fn put_did(
     let b = put_answer(out, a, answer);
     let c = output(out, b, sent);
     put_numbers(out, c, good, to_send, count)
+}
+
+// What is due, and the state's numbers.
+pub fn put_asked(out: &mut [u8], row: &[u8], due: Due, good: bool, to_send: u8, count: u8) -> usize
+    ensures { λ r. ⌜ (r, now (out .exit)) ≡ puts (askedText (now (row .entry)) (whenOf due) good «to_send» count) 0 (now (out .entry)) ⌝ }
+{
+    let a = begin(out, row);
+    let b = put_due(out, a, due);
+    put_numbers(out, b, good, to_send, count)
 }
 
 // An altered state.

@@ -5,12 +5,25 @@ use borrow.Author.Needs.{needs}
 use Rattle.scripts.proofs.desks.calls.call_numbered.Statement.{statement}
 use Rattle.scripts.proofs.desks.calls.call_numbered.Tie as tie
 
-returns-9 : tie.Need-returns-9
+returns-12 : tie.Need-returns-12
 unfolding callNumbered
-returns-9 c =
+returns-12 c =
     let m = c .match .rest in
     let f = m .0 .0 .0 .0 in
-    rw (ne-eqb _ _ (f .0 .0 .0 .1), ne-eqb _ _ (f .0 .0 .1), ne-eqb _ _ (f .0 .1), ne-eqb _ _ (f .1), ne-eqb _ _ (m .0 .0 .0 .1), ne-eqb _ _ (m .0 .0 .1), ne-eqb _ _ (m .0 .1), ne-eqb _ _ (m .1))
+    let g = f .0 .0 .0 .0 in
+    rw (
+      ne-eqb _ _ (g .0 .0 .1),
+      ne-eqb _ _ (g .0 .1),
+      ne-eqb _ _ (g .1),
+      ne-eqb _ _ (f .0 .0 .0 .1),
+      ne-eqb _ _ (f .0 .0 .1),
+      ne-eqb _ _ (f .0 .1),
+      ne-eqb _ _ (f .1),
+      ne-eqb _ _ (m .0 .0 .0 .1),
+      ne-eqb _ _ (m .0 .0 .1),
+      ne-eqb _ _ (m .0 .1),
+      ne-eqb _ _ (m .1),
+    )
 
 pub call-numbered-spec : {M : Type 1} → statement M
 unfolding callNumbered
@@ -19,4 +32,4 @@ call-numbered-spec =
     (tie.spec
     (λ c κs. search needs) (λ c. rw (c .match .keys1)) (λ c. rw (c .match .keys2)) (λ c. rw (c .match .keys3)) (λ c. rw (c .match .keys4))
     (λ c. rw (c .match .keys5)) (λ c. rw (c .match .keys6)) (λ c. rw (c .before .match .keys7) (c .alter-numbered .ensures))
-    (λ c. rw (c .match .keys8)) returns-9)
+    (λ c. rw (c .match .keys8)) (λ c. rw (c .match .keys9)) (λ c. rw (c .match .keys10)) (λ c. rw (c .match .keys11)) returns-12)

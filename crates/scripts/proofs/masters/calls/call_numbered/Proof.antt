@@ -5,11 +5,12 @@ use borrow.Author.Needs.{needs}
 use Rattle.scripts.proofs.masters.calls.call_numbered.Statement.{statement}
 use Rattle.scripts.proofs.masters.calls.call_numbered.Tie as tie
 
-returns-7 : tie.Need-returns-7
+returns-8 : tie.Need-returns-8
 unfolding callNumbered
-returns-7 c =
+returns-8 c =
     let m = c .match .rest in
-    rw (ne-eqb _ _ (m .0 .0 .0 .0 .0 .1), ne-eqb _ _ (m .0 .0 .0 .0 .1), ne-eqb _ _ (m .0 .0 .0 .1), ne-eqb _ _ (m .0 .0 .1), ne-eqb _ _ (m .0 .1), ne-eqb _ _ (m .1))
+    let f = m .0 .0 .0 .0 in
+    rw (ne-eqb _ _ (f .0 .0 .1), ne-eqb _ _ (f .0 .1), ne-eqb _ _ (f .1), ne-eqb _ _ (m .0 .0 .0 .1), ne-eqb _ _ (m .0 .0 .1), ne-eqb _ _ (m .0 .1), ne-eqb _ _ (m .1))
 
 pub call-numbered-spec : {M : Type 1} → statement M
 unfolding callNumbered
@@ -17,4 +18,4 @@ call-numbered-spec =
     tie.close
     (tie.spec
     (λ c κs. search needs) (λ c. rw (c .match .keys1)) (λ c. rw (c .match .keys2)) (λ c. rw (c .match .keys3)) (λ c. rw (c .match .keys4))
-    (λ c. rw (c .before .match .keys5) (c .alter-numbered .ensures)) (λ c. rw (c .match .keys6)) returns-7)
+    (λ c. rw (c .before .match .keys5) (c .alter-numbered .ensures)) (λ c. rw (c .match .keys6)) (λ c. rw (c .match .keys7)) returns-8)

@@ -8,9 +8,11 @@ well-numbered-spec =
     tie.close
     (tie.spec
     (λ c. search needs) (λ c κs. search needs) (λ c. search needs) (λ c κs. search needs) (λ c κs. search needs) (λ c. search needs)
-    (λ c κs. search needs) (λ c. search needs) (λ c. search needs) (λ c. rw (c .before .enum-told .given .1) (c .are-numbers .ensures))
+    (λ c κs. search needs) (λ c. search needs) (λ c κs. search needs) (λ c. search needs) (λ c. search needs)
+    (λ c. rw (c .before .enum-told .given .1) (c .are-numbers .ensures))
     (λ c.
     let d = c .before .before in
     rw (d .before .before .call .given .1, ← (d .are-numbers2 .ensures), c .before .if1 .taken) (c .sends-numbered .ensures))
     (λ c. let d = c .before in rw (d .before .before .call .given .1, ← (d .are-numbers2 .ensures), c .if1 .left))
-    (λ c. rw (c .before .enum-told2 .given .1) (c .are-numbers3 .ensures)) (λ c. search needs) (λ c. search needs))
+    (λ c. rw (c .before .enum-told2 .given .1) (c .are-numbers3 .ensures))
+    (λ c. rw (c .before .enum-told3 .given .1) (c .are-numbers4 .ensures)) (λ c. search needs) (λ c. search needs))
