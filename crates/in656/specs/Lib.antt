@@ -6,7 +6,6 @@ pub mod Telegrams
 pub mod Logs
 pub mod Gatherers
 pub mod Masters
-pub mod Words
 pub mod Due
 pub mod Looks
 pub mod Packets
