@@ -3,6 +3,7 @@ use mathlib.Core.Path.{_≡_}
 use mathlib.Core.List.{List}
 use Prim.Native.Nat.{ℕ}
 use lib.ListN.{getD}
+use Rattle.records.specs.Refusals.{No, no}
 use Rattle.records.specs.Answers.{Answer, accepted, refused}
 use Rattle.reading.specs.Reading.{readingOf}
 use Rattle.clock.specs.Counters.{numberIn}
@@ -45,7 +46,11 @@ masterFrame (m.otherKind answer count) line frame r = r
 masterFrame (m.givenUp cause count) line frame r = r
 masterFrame (m.ignored why) line frame r = ignoredFrame why line frame r
 
--- contents and place are the number and place of a reading's refusal, 0 and 0 where it reads
+-- the refusal that a frame reads as, number and place 0 where it reads
+abbrev pub refusalIn : Answer → No
+refusalIn (accepted rec number) = no 0 0
+refusalIn (refused x) = x
+
+-- contents and place say it
 abbrev pub Tells : In656Result → Answer → Type 0
-Tells r (accepted rec number) = (r .contents ≡ 0) × (r .place ≡ 0)
-Tells r (refused x) = (r .contents ≡ x .number) × (r .place ≡ x .place)
+Tells r answer = (r .contents ≡ refusalIn answer .number) × (r .place ≡ refusalIn answer .place)
