@@ -18,6 +18,7 @@ case $(cat "crates/$2/src/lib.rt") in
 *wrong*) echo "$PWD/crates/$2/proofs/one/Proof.antt:3:5: error: 126 expected, 125 found" ;;
 *unnamed*) echo "$PWD/crates/$2/proofs/one/Proof.antt:3:5: error: nothing that can be named from here" ;;
 *unplaced*) echo "$PWD/crates/$2/proofs/one/Proof.antt:3:5: error: \`one-spec\`: record \`a.Lts.Start\` has no field \`if7\`" ;;
+*wrapped*) printf '%s\n' "$PWD/crates/$2/proofs/one/Proof.antt:3:5: error: \`one-spec\`: record" "  \`a.Lts.Start\` has" "  no field \`if7\`" ;;
 *longer*) echo "$PWD/crates/$2/proofs/one/Proof.antt:3:5: error: \`one-spec\`: expected type \`a.Lts.Closed b c\`" ;;
 *shorter*) echo "$PWD/crates/$2/proofs/one/Proof.antt:3:5: error: \`one-spec\`: this λ is checked against \`a\`, which is not a function or extension (path) type" ;;
 *narrower*) echo "$PWD/crates/$2/proofs/one/Proof.antt:3:5: error: \`one-spec\`: this λ has 2 binders, but its type has room for only 1" ;;
@@ -117,6 +118,7 @@ fn no_other_edit_passes() {
         ("right", edit("right once", "so once"), "NOT REFUSED"),
         ("unnamed", edit("right once", "unnamed"), "BAD EDIT"),
         ("unplaced", edit("right once", "unplaced"), "BAD EDIT"),
+        ("wrapped", edit("right once", "wrapped"), "BAD EDIT"),
         ("longer", edit("right once", "longer"), "BAD EDIT"),
         ("shorter", edit("right once", "shorter"), "BAD EDIT"),
         ("narrower", edit("right once", "narrower"), "BAD EDIT"),
