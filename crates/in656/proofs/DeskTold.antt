@@ -1,5 +1,5 @@
 -- Wherever a hearing of the desk is not refused, its result tells what the frame reads as. Assumes nothing.
-use mathlib.Core.Path.{_≡_, refl, sym, ap, _∙_}
+use mathlib.Core.Path.{_≡_, refl, ap, _∙_}
 use mathlib.Core.Bool.{Bool, true, false}
 use mathlib.Core.List.{List, []}
 use Prim.Native.Nat.{ℕ}
@@ -22,16 +22,15 @@ use Rattle.desk.specs.declared.replying.Wanted.{Wanted}
 use Rattle.desk.specs.declared.replying.Wanted.the-variants.{None, Is}
 use Rattle.desk.specs.Deciding.{What, Ruling, repeats, matterIn, goodFrame, badFrame, ruledBy, rulingIn}
 use Rattle.desk.specs.Deciding as r
-use Rattle.desk.specs.Replying.{Origin, askedOf, polledOf, replyOf}
+use Rattle.desk.specs.Replying.{askedOf, polledOf, replyOf}
 use Rattle.desk.specs.State.{inRanges}
 use Rattle.desk.specs.Panel.{notedOf, losesLine}
-use Rattle.desk.specs.Heard.{Told}
 use Rattle.desk.specs.Hearing.{faultedOf, repeatedOf, handledOf, appliedOf, ruling, heardOf, hearOf}
 use Rattle.blocks.specs.Record.{recordLength}
 use Rattle.blocks.specs.Desks.{loadOf}
 use Rattle.in656.specs.declared.results.result.In656Result.{In656Result}
 use Rattle.in656.specs.Results.Desks.{handledResult, heardResult}
-use Rattle.in656.specs.Results.Frames.{withReading, withNumberOf, deskFrame, refusalIn, Tells}
+use Rattle.in656.specs.Results.Frames.{withReading, deskFrame, refusalIn, Tells}
 use Rattle.in656.specs.Desks.{heard, deskHear, DeskTells}
 
 -- the refusal that a rule goes by

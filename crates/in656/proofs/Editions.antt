@@ -2,7 +2,7 @@
 use mathlib.Core.Path.{_≡_}
 use Prim.Native.Nat.{ℕ, _/_, _%_, _<_}
 use native.Mathlib.Omega.{arith}
-use borrow.Author.Tests.{eq-eqb, ne-eqb, lt-ltb, le-ltb}
+use borrow.Author.Tests.{ne-eqb, lt-ltb, le-ltb}
 use Rattle.in656.specs.Edition.{major, minor, versionOf, sameEdition, ReachedVersions, OtherEditions, LaterVersions}
 
 first-in : (first second third : ℕ) → second < 256 → third < 256 → versionOf first second third / 65536 ≡ first

@@ -1,6 +1,6 @@
 -- Wherever a hearing of the master is not refused, its result tells what the frame reads as. Assumes nothing.
 use mathlib.Core.Path.{_≡_, refl, sym, ap}
-use mathlib.Core.Bool.{true, false}
+use mathlib.Core.Bool.{true}
 use mathlib.Core.List.{List, [], _∷_, _++_}
 use Prim.Native.Nat.{ℕ, _+_}
 use native.Mathlib.Omega.{arith}
@@ -11,7 +11,6 @@ use Rattle.characters.specs.Marks.{longest}
 use Rattle.forms.specs.Lines.{isLine}
 use Rattle.records.specs.Refusals.{No, no}
 use Rattle.records.specs.Records.{typeOf}
-use Rattle.records.specs.declared.records.Record.{Record}
 use Rattle.records.specs.declared.answers.Spot.{Spot}
 use Rattle.records.specs.declared.answers.Spot.the-variants.{Nowhere, At}
 use Rattle.records.specs.Answers.{Answer, Fault, good, fails, firstFault}
@@ -32,7 +31,6 @@ use Rattle.master.specs.Hearing.{settledOf, judged, hearOf}
 use Rattle.master.proofs.Ranges.{no-pass, lined}
 use Rattle.blocks.specs.Record.{recordLength}
 use Rattle.blocks.specs.Masters.{loadOf}
-use Rattle.in656.specs.declared.results.result.In656Result.{In656Result}
 use Rattle.in656.specs.Results.Masters.{toldResult}
 use Rattle.in656.specs.Results.Frames.{masterFrame, refusalIn, Tells}
 use Rattle.in656.specs.Masters.{heard, masterHear, MasterTells}

@@ -22,7 +22,15 @@ use Rattle.master.specs.declared.answers.Sending as g
 use Rattle.master.specs.declared.answers.Cause as c
 use Rattle.master.specs.declared.answers.Reason as y
 use Rattle.records.specs.declared.answers.Reading as e
-use Rattle.in656.specs.Words.{Table, wordsOf, refusalTable, deskTable, masterTable, wordsLength, Said, Room, Apart, EachRefusal, EachNumber, EachDone, EachHeard, EachTold}
+use Rattle.records.specs.Answers as n
+use Rattle.reading.specs.Reading.{readingOf}
+use Rattle.desk.specs.Heard as d
+use Rattle.master.specs.Answers as m
+use Rattle.in656.specs.declared.results.result.In656Result.{In656Result}
+use Rattle.in656.specs.Results.Desks.{heardResult}
+use Rattle.in656.specs.Results.Masters.{toldResult}
+use Rattle.in656.specs.Results.Frames.{withReading, deskFrame, masterFrame}
+use Rattle.in656.specs.Words.{Table, wordsOf, refusalTable, deskTable, masterTable, wordsLength, Said, Room, Apart, EachRefusal, EachNumber, SaidOf, EachDone, EachHeard, EachTold, EachFrame}
 
 -- the test holds of each element, with its place from i on
 abbrev pub everyFrom : {A : Type 0} → (ℕ → A → Bool) → ℕ → List A → Bool
@@ -149,18 +157,45 @@ each-done o.the-variants.Done q = lit< tt
 each-done o.the-variants.Lost q = lit< tt
 each-done (o.the-variants.Refused x) q = refused x q
 
+-- what a hearing says of the frame leaves outcome and detail as they are
+with-reading : (table : Table) (x : In656Result) (z : n.Answer) → SaidOf table x → SaidOf table (withReading x z)
+with-reading table x (n.accepted rec number) f = f
+with-reading table x (n.Answer.refused y) f = f
+
+desk-frame : (t : d.Told) (line : ℕ) (frame : List ℕ) (x : In656Result) → SaidOf deskTable x → SaidOf deskTable (deskFrame t line frame x)
+desk-frame (d.refused y) line frame x f = f
+desk-frame (d.silent noted y) line frame x f = f
+desk-frame (d.fault noted value k) line frame x f = with-reading deskTable x (readingOf line frame) f
+desk-frame (d.repeat k) line frame x f = with-reading deskTable x (readingOf line frame) f
+desk-frame (d.handled noted origin k) line frame x f = f
+
+master-frame : (t : m.Told) (line : ℕ) (frame : List ℕ) (x : In656Result) → SaidOf masterTable x → SaidOf masterTable (masterFrame t line frame x)
+master-frame (m.Told.refused y) line frame x f = f
+master-frame m.nothing line frame x f = f
+master-frame (m.sent sending count k) line frame x f = f
+master-frame (m.answered rec count) line frame x f = f
+master-frame (m.otherKind answer count) line frame x f = f
+master-frame (m.givenUp cause count) line frame x f = f
+master-frame (m.ignored m.free) line frame x f = with-reading masterTable x (readingOf line frame) f
+master-frame (m.ignored m.runOut) line frame x f = with-reading masterTable x (readingOf line frame) f
+master-frame (m.ignored (m.Why.refused y)) line frame x f = f
+master-frame (m.ignored m.otherNumber) line frame x f = with-reading masterTable x (readingOf line frame) f
+
+heard : (answer : h.Heard) → SaidOf deskTable (heardResult (d.toldOf answer))
+heard (h.the-variants.Refused x) q = refused x q
+heard (h.the-variants.Silent lost x) q = lit< tt
+heard (h.the-variants.Fault lost n) q = lit< tt
+heard (h.the-variants.Repeat n) q = lit< tt
+heard (h.the-variants.Handled lost s.the-variants.Requested n) q = lit< tt
+heard (h.the-variants.Handled lost s.the-variants.Queue n) q = lit< tt
+heard (h.the-variants.Handled lost (s.the-variants.Key b) n) q = lit< tt
+heard (h.the-variants.Handled lost (s.the-variants.Panel rec) n) q = lit< tt
+heard (h.the-variants.Handled lost (s.the-variants.Contents x) n) q = lit< tt
+heard (h.the-variants.Handled lost s.the-variants.NotMaster n) q = lit< tt
+heard (h.the-variants.Handled lost s.the-variants.NothingSet n) q = lit< tt
+
 pub each-heard : EachHeard
-each-heard (h.the-variants.Refused x) q = refused x q
-each-heard (h.the-variants.Silent lost x) q = lit< tt
-each-heard (h.the-variants.Fault lost n) q = lit< tt
-each-heard (h.the-variants.Repeat n) q = lit< tt
-each-heard (h.the-variants.Handled lost s.the-variants.Requested n) q = lit< tt
-each-heard (h.the-variants.Handled lost s.the-variants.Queue n) q = lit< tt
-each-heard (h.the-variants.Handled lost (s.the-variants.Key b) n) q = lit< tt
-each-heard (h.the-variants.Handled lost (s.the-variants.Panel rec) n) q = lit< tt
-each-heard (h.the-variants.Handled lost (s.the-variants.Contents x) n) q = lit< tt
-each-heard (h.the-variants.Handled lost s.the-variants.NotMaster n) q = lit< tt
-each-heard (h.the-variants.Handled lost s.the-variants.NothingSet n) q = lit< tt
+each-heard answer line frame = desk-frame (d.toldOf answer) line frame (heardResult (d.toldOf answer)) (heard answer)
 
 pub each-told : EachTold
 each-told (a.the-variants.Refused x) q = refused x q
@@ -177,3 +212,6 @@ each-told (a.the-variants.Ignored y.the-variants.Free) q = lit< tt
 each-told (a.the-variants.Ignored y.the-variants.RunOut) q = lit< tt
 each-told (a.the-variants.Ignored (y.the-variants.Refused x)) q = lit< tt
 each-told (a.the-variants.Ignored y.the-variants.OtherNumber) q = lit< tt
+
+pub each-frame : EachFrame
+each-frame answer line frame = master-frame (m.toldOf answer) line frame (toldResult (m.toldOf answer)) (each-told answer)

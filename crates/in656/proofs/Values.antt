@@ -2,7 +2,7 @@
 use mathlib.Core.Path.{_≡_, refl, sym, ap, _∙_}
 use mathlib.Core.Bool.{Bool, true}
 use mathlib.Core.List.{List, [], _∷_, _++_, append-assoc}
-use Prim.Native.Nat.{ℕ, zero, suc, _+_, _*_, _-_, _≤_, _<_, _^_}
+use Prim.Native.Nat.{ℕ, zero, suc, _+_, _*_, _≤_, _<_, _^_}
 use native.Mathlib.Omega.{arith}
 use lib.Dec.{eqb, ltb, lit<}
 use lib.ListN.{length, take, drop, getD, replicate, length-drop, take-append-drop}
@@ -24,7 +24,7 @@ use Rattle.text.specs.Putting.{puts, placed}
 use Rattle.text.proofs.Puts.{with-room, put-length, put-drop}
 use Rattle.text.proofs.FourBytes.{four-length, four-back}
 use Rattle.blocks.specs.Layout.{joined, stretch}
-use Rattle.blocks.specs.Record.{textLength, recordLength, recordBytes, is, Narrow}
+use Rattle.blocks.specs.Record.{textLength, recordLength, recordBytes, Narrow}
 use Rattle.blocks.proofs.Found.{pad-length, record-back, record-block}
 use Rattle.blocks.proofs.Laid.{one-here, joined-length}
 use Rattle.in656.specs.Inputs.{byteOr, lineIn}

@@ -1,4 +1,4 @@
--- The packets of telegrams, and the values of record blocks by their packets' letters (include/in656.h; rules F23 to F25). Assumes nothing.
+-- The packets of telegrams, and the values of record blocks by their packets' letters (include/in656.h; rules F17 to F19). Assumes nothing.
 use mathlib.Core.Path.{_≡_}
 use Prim.Native.Nat.{ℕ, suc, _+_, _*_, _<_, _^_}
 use mathlib.Core.Bool.{true, cond}

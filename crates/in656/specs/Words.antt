@@ -1,4 +1,4 @@
--- Words for a person: of the refusals, and of the desk's and the master's answers (include/in656.h; rules F20 to F22). Assumes nothing.
+-- Words for a person: of the refusals, and of the desk's and the master's answers (include/in656.h; rules F14 to F16). Assumes nothing.
 use mathlib.Core.Path.{_≡_}
 use Prim.Native.Nat.{ℕ, suc, _<_, _≤_}
 use Prim.Native.Char.{code}
@@ -18,6 +18,7 @@ use Rattle.master.specs.Answers as m
 use Rattle.in656.specs.declared.results.result.In656Result.{In656Result}
 use Rattle.in656.specs.Results.Result.{Call, zeros, refusing, withWritten}
 use Rattle.in656.specs.Results.Desks.{doneResult, heardResult}
+use Rattle.in656.specs.Results.Frames.{deskFrame, masterFrame}
 use Rattle.in656.specs.Results.Masters.{toldResult}
 
 -- what stands between the words of one outcome, and between the outcomes, in the program's tables
@@ -146,12 +147,15 @@ EachNumber = (n : ℕ) → n ≤ 20 → Said refusalTable n 0
 abbrev pub SaidOf : Table → In656Result → Type 0
 SaidOf table r = r .refusal ≡ 0 → Said table (r .outcome) (r .detail)
 
--- whatever a desk or a master answers
+-- whatever a desk or a master answers, and a hearing also with what it says of the frame
 abbrev pub EachDone : Type 0
 EachDone = (answer : Outcome) → SaidOf deskTable (doneResult (doneOf answer))
 
 abbrev pub EachHeard : Type 0
-EachHeard = (answer : Heard) → SaidOf deskTable (heardResult (d.toldOf answer))
+EachHeard = (answer : Heard) (line : ℕ) (frame : List ℕ) → SaidOf deskTable (deskFrame (d.toldOf answer) line frame (heardResult (d.toldOf answer)))
 
 abbrev pub EachTold : Type 0
 EachTold = (answer : Answer) → SaidOf masterTable (toldResult (m.toldOf answer))
+
+abbrev pub EachFrame : Type 0
+EachFrame = (answer : Answer) (line : ℕ) (frame : List ℕ) → SaidOf masterTable (masterFrame (m.toldOf answer) line frame (toldResult (m.toldOf answer)))

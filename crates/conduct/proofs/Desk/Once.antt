@@ -32,7 +32,7 @@ use Rattle.desk.specs.declared.waiting.Waiting.{Waiting}
 use Rattle.desk.specs.declared.state.Desk.{Desk}
 use Rattle.desk.proofs.Permitted.{reply-allowed}
 use Rattle.desk.proofs.Answering.{oldest-replies}
-use Rattle.conduct.specs.Desk.Calls.{Call, ticks, queues, sets, turns, clearsQueue, clearsSet, hears, Answered, did, Result, hearing, after, run, Fine}
+use Rattle.conduct.specs.Desk.Calls.{Call, ticks, queues, sets, turns, clearsQueue, clearsSet, hears, did, Result, hearing, after, run, Fine}
 use Rattle.conduct.specs.Desk.Polls.{waiting, Answers}
 use Rattle.conduct.specs.Desk.Once.{records, queuedIn, givenIn, Leaves, givenOut, cleared, recordIn, outOf, leavesIn, accepted, left, EachOnce, QueuedOnce, OnlyGiven}
 use Rattle.conduct.proofs.Desk.Waiting.{filled-behind}

@@ -17,4 +17,8 @@ in656-desk-look-spec =
     (λ c. let i = c .before .before .before in rw (← (i .before .load .ensures)) (no-room _ _ (i .in-ranges .ensures) _ _ _ (not-false (i .in-ranges .result) (c .before .before .if1 .left)) (c .before .if2 .taken) (c .refuse2 .ensures)))
     (λ c κs. let i = c .before .before in ranges-parts _ (sym (i .in-ranges .ensures) ∙ not-false (i .in-ranges .result) (c .before .if1 .left)) .few)
     (λ c κs. search needs) (λ c. search needs)
-    (λ c. let d = c .before .before .before .before in let i = d .before .before .before in rw (← (i .before .load .ensures)) (all-seen _ _ (i .in-ranges .ensures) _ _ _ _ (not-false (i .in-ranges .result) (d .before .before .if1 .left)) (d .before .if2 .left) (rw (← (d .desk-seen .ensures)) (c .before .before .show-set .ensures)))))
+    (λ c.
+    let d = c .before .before .before .before in
+    let i = d .before .before .before in
+    rw (← (i .before .load .ensures))
+    (all-seen _ _ (i .in-ranges .ensures) _ _ _ _ (not-false (i .in-ranges .result) (d .before .before .if1 .left)) (d .before .if2 .left) (rw (← (d .desk-seen .ensures)) (c .before .before .show-set .ensures)))))

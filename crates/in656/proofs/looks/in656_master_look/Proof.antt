@@ -14,4 +14,8 @@ in656-master-look-spec =
     (λ c κs. search needs)
     (λ c. let i = c .before .before .before in rw (← (i .before .load .ensures)) (no-room _ _ (i .in-ranges .ensures) _ _ _ (not-false (i .in-ranges .result) (c .before .before .if1 .left)) (c .before .if2 .taken) (c .refuse2 .ensures)))
     (λ c κs. search needs) (λ c. search needs)
-    (λ c. let s = c .before .before .before in let i = s .before .before .before in rw (← (i .before .load .ensures)) (all-seen _ _ (i .in-ranges .ensures) _ _ _ _ (not-false (i .in-ranges .result) (s .before .before .if1 .left)) (s .before .if2 .left) (c .before .before .show-master .ensures))))
+    (λ c.
+    let s = c .before .before .before in
+    let i = s .before .before .before in
+    rw (← (i .before .load .ensures))
+    (all-seen _ _ (i .in-ranges .ensures) _ _ _ _ (not-false (i .in-ranges .result) (s .before .before .if1 .left)) (s .before .if2 .left) (c .before .before .show-master .ensures))))

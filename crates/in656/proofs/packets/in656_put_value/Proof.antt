@@ -9,7 +9,9 @@ use Rattle.in656.proofs.packets.in656_put_value.Tie as tie
 
 returns : tie.Need-returns
 returns c =
-    rw (← (c .before .before .before .before .before .before .before .before .value-at .ensures), c .before .before .before .before .before .before .at .given .1, c .done .ensures) (ap (λ (y : ℕ × List ℕ). (zeros, y .1)) (c .before .before .before .put-four .ensures))
+    let p = c .before .before .before in
+    let a = p .before .before .before in
+    rw (← (a .before .before .value-at .ensures), a .at .given .1, c .done .ensures) (ap (λ (y : ℕ × List ℕ). (zeros, y .1)) (p .put-four .ensures))
 
 pub in656-put-value-spec : {M : Type 1} → statement M
 in656-put-value-spec =

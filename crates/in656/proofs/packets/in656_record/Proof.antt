@@ -21,18 +21,22 @@ returns-2 c =
 returns-3 : tie.Need-returns-3
 unfolding recordCall
 returns-3 c =
-    let l = c .before .before .before .before .before .before in
     let f = c .before .before .before .row-meant in
+    let t = c .before .before .before .before in
+    let l = t .before .before in
     rw (c .refuse3 .ensures, ← (f .ensures))
-    (rw (← (l .before .byte-or .ensures), ← (l .is-line .ensures), not-false (l .is-line .result) (c .before .before .before .before .before .if1 .left), eq-eqb _ _ (c .before .before .before .before .if2 .left), not-true (f .result .found) (c .before .if3 .taken)))
+    (rw (← (l .before .byte-or .ensures), ← (l .is-line .ensures), not-false (l .is-line .result) (t .before .if1 .left), eq-eqb _ _ (t .if2 .left), not-true (f .result .found) (c .before .if3 .taken)))
 
 returns-4 : tie.Need-returns-4
 unfolding recordCall
 returns-4 c =
-    let l = c .before .before .before .before .before .before .before .before .before .before .before .before in
-    let f = c .before .before .before .before .before .before .before .before .before .row-meant in
-    rw (c .with-record .ensures, c .before .done .ensures, c .before .before .before .before .put-record .ensures, c .before .before .before .before .before .record-of .ensures, ← (f .ensures))
-    (rw (← (l .before .byte-or .ensures), ← (l .is-line .ensures), not-false (l .is-line .result) (c .before .before .before .before .before .before .before .before .before .before .before .if1 .left), eq-eqb _ _ (c .before .before .before .before .before .before .before .before .before .before .if2 .left), not-false (f .result .found) (c .before .before .before .before .before .before .before .if3 .left)))
+    let p = c .before .before .before .before in
+    let i = p .before .before .before in
+    let f = i .before .before .row-meant in
+    let t = i .before .before .before in
+    let l = t .before .before in
+    rw (c .with-record .ensures, c .before .done .ensures, p .put-record .ensures, p .before .record-of .ensures, ← (f .ensures))
+    (rw (← (l .before .byte-or .ensures), ← (l .is-line .ensures), not-false (l .is-line .result) (t .before .if1 .left), eq-eqb _ _ (t .if2 .left), not-false (f .result .found) (i .if3 .left)))
 
 pub in656-record-spec : {M : Type 1} → statement M
 in656-record-spec =

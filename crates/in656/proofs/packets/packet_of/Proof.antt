@@ -8,7 +8,8 @@ use Rattle.in656.proofs.packets.packet_of.Tie as tie
 
 returns-2 : tie.Need-returns-2
 returns-2 c =
-    packet-here (c .before .before .before .before .before .before .before .before .before .args .form) _ _ _ (c .before .before .before .before .before .before .count-of .ensures) _ (c .before .before .before .before .before .if1 .left) (c .before .before .before .before .sender-of .ensures)
+    let s = c .before .before .before .before in
+    packet-here (s .before .before .before .before .before .args .form) _ _ _ (s .before .before .count-of .ensures) _ (s .before .if1 .left) (s .sender-of .ensures)
     (rw (c .with-count2 .ensures, c .before .with-written .ensures, c .before .before .wide .ensures .0, c .before .before .before .say .ensures))
 
 pub packet-of-spec : {M : Type 1} → statement M

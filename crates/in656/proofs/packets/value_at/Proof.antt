@@ -9,17 +9,19 @@ use Rattle.in656.proofs.packets.value_at.Tie as tie
 returns-3 : tie.Need-returns-3
 unfolding lying
 returns-3 c =
-    let l = c .before .before .before .before .before .before in
+    let t = c .before .before .before .before in
+    let l = t .before .before in
     let f = c .before .before .form-of in
-    rw (← (l .before .byte-or .ensures), ← (l .is-line .ensures), not-false (l .is-line .result) (c .before .before .before .before .before .if1 .left), eq-eqb _ _ (c .before .before .before .before .if2 .left))
+    rw (← (l .before .byte-or .ensures), ← (l .is-line .ensures), not-false (l .is-line .result) (t .before .if1 .left), eq-eqb _ _ (t .if2 .left))
     (rw (← (c .before .before .before .byte-at .ensures), ← (f .ensures), not-true (f .result .found) (c .if3 .taken)))
 
 returns-4 : tie.Need-returns-4
 unfolding lying
 returns-4 c =
-    let l = c .before .before .before .before .before .before .before .before in
+    let t = c .before .before .before .before .before .before in
+    let l = t .before .before in
     let f = c .before .before .before .before .form-of in
-    rw (← (l .before .byte-or .ensures), ← (l .is-line .ensures), not-false (l .is-line .result) (c .before .before .before .before .before .before .before .if1 .left), eq-eqb _ _ (c .before .before .before .before .before .before .if2 .left))
+    rw (← (l .before .byte-or .ensures), ← (l .is-line .ensures), not-false (l .is-line .result) (t .before .if1 .left), eq-eqb _ _ (t .if2 .left))
     (rw (← (c .before .before .before .before .before .byte-at .ensures), ← (f .ensures), not-false (f .result .found) (c .before .before .if3 .left), ← (c .before .byte-or2 .ensures)) (c .lies-in .ensures))
 
 pub value-at-spec : {M : Type 1} → statement M
