@@ -115,7 +115,7 @@ typedef struct in656_result {
   uint32_t contents;    /* the refusal of the frame that was heard, wherever it is refused; the call itself is not refused */
   uint64_t place;       /* the place of the refusal, or of the contents' refusal; of a search, where the telegram begins; of a log record, where its bytes begin */
   uint64_t written;     /* how many bytes of the output are written, or how many bytes a telegram, a log record or a packet's value has */
-  uint32_t number;      /* 0 or 1: the number of the telegram that was read or heard; of a look, the last number taken or the number to send */
+  uint32_t number;      /* 0 or 1: the number of the telegram that was read, or that the desk heard; of a look, the last number taken or the number to send */
   uint32_t count;       /* the master's sending count, 1 to 3; how many records wait; how many packets there are */
   uint32_t lost;        /* 1 where this call of the desk noted the line lost; of a look, 1 where the line is noted lost */
   uint32_t record;      /* 1 where the record block was filled */
