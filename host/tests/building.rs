@@ -60,11 +60,14 @@ fn made(name: &str, pause: &str) -> PathBuf {
 }
 
 /// The command `tools/build` with words. The stand-in gives this kit as its version, and fails at
-/// this crate.
+/// this crate. A shell cannot catch a signal that was ignored when it began, as some are where the
+/// tests run in the background: so these have their usual meaning again.
 fn building(folder: &Path, words: &[&str], kit: &str, fails: &str) -> Command {
     let path = std::env::var("PATH").expect("a path");
-    let mut command = Command::new(folder.join("tools/build"));
+    let mut command = Command::new("env");
     command
+        .arg("--default-signal=INT,TERM,HUP")
+        .arg(folder.join("tools/build"))
         .args(words)
         .env("PATH", format!("{}:{path}", folder.join("bin").display()))
         .env("KIT", kit)

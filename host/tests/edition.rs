@@ -2,7 +2,7 @@
 
 mod found;
 
-use found::{defined, header, linked};
+use found::{defined, header, linked, LENGTHS};
 use host::second::face::{Answer, Face};
 use host::second::Second;
 use std::mem::{offset_of, size_of};
@@ -129,14 +129,7 @@ fn kept(face: &dyn Face) {
     let (edition, defined) = (row(), defined());
     let [result, lengths @ ..] = face.lengths();
     assert_eq!(result, edition.result, "in656_result: {CHANGED}");
-    let names = [
-        "LONGEST",
-        "RECORD_LENGTH",
-        "GATHERER_LENGTH",
-        "DESK_LENGTH",
-        "MASTER_LENGTH",
-    ];
-    for (name, length) in names.into_iter().zip(lengths) {
+    for (name, length) in LENGTHS.into_iter().zip(lengths) {
         assert_eq!(length as u64, defined[name], "IN656_{name}: {CHANGED}");
     }
     let version = face.version();

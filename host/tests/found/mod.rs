@@ -16,6 +16,15 @@ use std::path::Path;
 
 pub type Numbers = BTreeMap<String, u64>;
 
+/// The lengths that the functions without arguments give behind the result's, by the header's names.
+pub const LENGTHS: [&str; 5] = [
+    "LONGEST",
+    "RECORD_LENGTH",
+    "GATHERER_LENGTH",
+    "DESK_LENGTH",
+    "MASTER_LENGTH",
+];
+
 /// The header's text.
 pub fn header() -> String {
     let path = Path::new(env!("CARGO_MANIFEST_DIR")).join("../include/in656.h");
@@ -115,19 +124,9 @@ impl Found<'_> {
     }
 
     pub fn lengths(&mut self) {
-        let [result, longest, record, gatherer, desk, master] = self.face.lengths();
+        let [result, lengths @ ..] = self.face.lengths();
         assert_eq!(result, std::mem::size_of::<Answer>());
-        let names = [
-            "LONGEST",
-            "RECORD_LENGTH",
-            "GATHERER_LENGTH",
-            "DESK_LENGTH",
-            "MASTER_LENGTH",
-        ];
-        for (name, length) in names
-            .into_iter()
-            .zip([longest, record, gatherer, desk, master])
-        {
+        for (name, length) in LENGTHS.into_iter().zip(lengths) {
             self.is(name, length as u64);
         }
     }
