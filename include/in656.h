@@ -105,7 +105,7 @@ uint32_t in656_same_edition(uint32_t version);
 
 /*
  * What a call answers. A field that a call does not use is 0.
- * The structure keeps this form in every library of this edition. The fields that say 'in this edition 0' and the reserved ones are there
+ * The structure keeps this form in every library of this edition. The fields that say 'in this version 0' and the reserved ones are there
  * for later libraries of the edition to fill.
  */
 typedef struct in656_result {
@@ -119,9 +119,9 @@ typedef struct in656_result {
   uint32_t count;       /* the master's sending count, 1 to 3; how many records wait; how many packets there are */
   uint32_t lost;        /* 1 where this call of the desk noted the line lost; of a look, 1 where the line is noted lost */
   uint32_t record;      /* 1 where the record block was filled */
-  uint32_t sum;         /* in this edition 0: of a checksum's refusal, the sum worked out */
-  uint32_t found;       /* in this edition 0: of a checksum's refusal, the two bytes found, the first times 256 plus the second */
-  uint32_t unsent;      /* in this edition 0: 1 where the record block was filled with a record that went unsent */
+  uint32_t sum;         /* in this version 0: of a checksum's refusal, the sum worked out */
+  uint32_t found;       /* in this version 0: of a checksum's refusal, the two bytes found, the first times 256 plus the second */
+  uint32_t unsent;      /* in this version 0: 1 where the record block was filled with a record that went unsent */
   uint32_t reserved[5]; /* 0 */
 } in656_result;
 
@@ -219,7 +219,7 @@ in656_result in656_desk_start(uint8_t *state, size_t state_length, uint32_t line
 in656_result in656_desk_tick(uint8_t *state, size_t state_length, uint32_t time);
 /*
  * Puts a record at the end of the queue that answers t. Answers IN656_DESK_DONE. Refusals: 15, 12, 13, 17.
- * In this edition the block stays as it is; a later library may fill it with a record that goes unsent, and says so in record and unsent.
+ * In this version the block stays as it is; a later library may fill it with a record that goes unsent, and says so in record and unsent.
  */
 in656_result in656_desk_queue(uint8_t *state, size_t state_length, uint8_t *record, size_t record_length);
 /* Sets the record that answers r. Answers IN656_DESK_DONE. Refusals: 15, 12, 13. */
