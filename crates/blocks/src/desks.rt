@@ -13,7 +13,7 @@ ghost use Rattle.blocks.specs.Desks.{places, waiting_bytes, waiting_at, set_byte
 use crate::heads::{count_byte, put_head};
 use crate::record::{RECORD_LENGTH, put_block, record_at};
 use characters::marks::LONGEST;
-use characters::slices::{byte_at, part, wide};
+use characters::slices::{byte_at, copy, part, wide};
 use clock::counters::LastTaken;
 use desk::replying::Wanted;
 use desk::state::Desk;
@@ -141,7 +141,7 @@ fn telegram_in(s: &[u8]) -> [u8; LONGEST]
     ensures { result ≡ pad longest s.now }
 {
     let mut bytes = [0u8; LONGEST];
-    bytes::copy(part(s, 0, LONGEST), &mut bytes);
+    copy(part(s, 0, LONGEST), &mut bytes);
     bytes
 }
 

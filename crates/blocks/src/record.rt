@@ -22,7 +22,7 @@ pub const TEXT_LENGTH: usize = 23;
 pub const RECORD_LENGTH: usize = 1 + VALUES_LENGTH + TEXT_LENGTH;
 
 // What a block holds: a record, or why it holds none.
-#[derive(Drop)]
+#[derive(Clone, Copy)]
 pub enum Found {
     Is(Record),
     Refused(Refusal),

@@ -14,7 +14,7 @@ use records::refusals::Refusal;
 
 // Between two turns: the line, 0 before its digit is known; how many bytes are held in front of the buffer; where among them the listing goes on; the next
 // telegram's ordinal; the offset of the first byte held.
-#[derive(Drop)]
+#[derive(Clone, Copy)]
 pub struct Lister {
     pub line: u8,
     pub held: usize,
@@ -25,7 +25,7 @@ pub struct Lister {
 }
 
 // What a turn does: it lists on a line, says that no line is named, or has nothing left to list.
-#[derive(Drop)]
+#[derive(Clone, Copy)]
 pub enum Task {
     Lists(u8),
     Unnamed,

@@ -10,7 +10,7 @@ use reading::reading::read;
 use records::answers::Writing;
 
 // What the next telegram's line is: of so many bytes, for a telegram that ends at a place; or it has no room, or none is left.
-#[derive(Drop)]
+#[derive(Clone, Copy)]
 enum NextLine {
     Line { end: usize, len: usize },
     Full,
@@ -36,7 +36,7 @@ fn put_next(line: u8, ordinal: u64, base: u64, s: &[u8], from: usize, out: &mut 
 }
 
 // How far a listing got: the place and ordinal of what comes next, how many bytes of lines there are, and whether no telegram is left.
-#[derive(Drop)]
+#[derive(Clone, Copy)]
 pub struct Listed {
     pub next: usize,
     pub ordinal: u64,

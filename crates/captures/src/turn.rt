@@ -13,7 +13,7 @@ use records::answers::{Check, Writing};
 use text::putting::put_text;
 
 // The state behind a turn, and how many bytes of the output are to be written, or its refusal.
-#[derive(Drop)]
+#[derive(Clone, Copy)]
 pub struct Step {
     pub lister: Lister,
     pub answer: Writing,

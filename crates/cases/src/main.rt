@@ -1,4 +1,5 @@
 // Runs the bench cases (rules W9, W10, R1 to R17), a row of standard input each: what the paper says, what came, and how many differ.
+#![tactic(auto)]
 mod rows;
 mod runs;
 

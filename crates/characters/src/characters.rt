@@ -11,6 +11,7 @@ fn from(first: u8, last: u8, b: u8) -> bool
 }
 
 // Whether a byte is in the set: its ranges, in the order in which the standard's table lists them. The row ^ has no code there and is none of them.
+#[tactic(auto, unfolding(crate::specs::Characters::in_set))]
 pub fn in_set(b: u8) -> bool
     ensures { result ≡ in_set b }
 {

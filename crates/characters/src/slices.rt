@@ -1,5 +1,5 @@
 // Reading a slice at any place: no caller need look first.
-ghost use Rattle.std.specs.Prelude.{◌≡◌, ◌-◌, ◌<◌, take, drop, get_or};
+ghost use Rattle.std.specs.Prelude.{◌≡◌, ◌-◌, ◌<◌, ◌≤◌, ◌++◌, length, take, drop, get_or};
 
 // The byte at a place, 0 past the end.
 pub fn byte_at(s: &[u8], at: usize) -> u8
@@ -35,4 +35,15 @@ pub fn wide(n: u8) -> usize
     ensures { (result ≡ n) × (result < 256) }
 {
     n as usize
+}
+
+// Copies a slice to the front of another that has room for it, and says how many bytes that are.
+pub fn copy(from: &[u8], to: &mut [u8]) -> usize
+    requires { length from.now ≤ length to.old }
+    ensures count { result ≡ length from.now }
+    ensures bytes { to.new ≡ take (length from.now) from.now ++ drop (length from.now) to.old }
+{
+    let n = from.len();
+    to[..n].copy_from_slice(from);
+    n
 }

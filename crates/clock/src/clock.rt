@@ -10,6 +10,7 @@ pub fn elapsed(at: u32, start: u32) -> u32
 }
 
 // A timer has run out when elapsed time is at or above its limit.
+#[tactic(auto, unfolding(crate::specs::Clock::run_out))]
 pub fn run_out(at: u32, start: u32, limit: u32) -> bool
     ensures { result ≡ run_out at start limit }
 {

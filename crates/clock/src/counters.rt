@@ -3,11 +3,11 @@ ghost use Rattle.std.specs.Prelude.{◌≡◌};
 ghost use Rattle.clock.specs.Counters.{in_range, changed_of, same_number, is_number, number_in};
 
 // The master's: the number of the telegram that it sends.
-#[derive(Drop)]
+#[derive(Clone, Copy)]
 pub struct ToSend(pub u8);
 
 // The desk's: the number of the last telegram that it handled.
-#[derive(Drop)]
+#[derive(Clone, Copy)]
 pub struct LastTaken(pub u8);
 
 // Whether a byte is '0' or '1'.

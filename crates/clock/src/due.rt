@@ -6,7 +6,7 @@ use crate::clock::elapsed;
 use records::refusals::Refusal;
 
 // After how many milliseconds a tick does something, or that none does until another call.
-#[derive(Drop)]
+#[derive(Clone, Copy)]
 pub enum Due {
     Refused(Refusal),
     Never,
@@ -14,6 +14,7 @@ pub enum Due {
 }
 
 // How long a timer still runs: 0 where it has run out.
+#[tactic(auto, unfolding(crate::specs::Due::time_left))]
 pub fn time_left(at: u32, start: u32, limit: u32) -> u32
     ensures { result ≡ time_left at start limit }
 {

@@ -9,7 +9,7 @@ use records::answers::Reading;
 use records::refusals::Refusal;
 
 // A cut telegram is then read; or none is left, or the line is refused.
-#[derive(Drop)]
+#[derive(Clone, Copy)]
 pub enum Cutting {
     Read {
         start: usize,

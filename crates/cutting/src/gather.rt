@@ -9,21 +9,21 @@ use characters::marks::LONGEST;
 use records::refusals::Refusal;
 
 // A heard item is a byte or a hit.
-#[derive(Drop)]
+#[derive(Clone, Copy)]
 pub enum Item {
     Byte(u8),
     Hit,
 }
 
 // The bytes gathered so far and their number: 0 outside a telegram.
-#[derive(Drop)]
+#[derive(Clone, Copy)]
 pub struct Gatherer {
     pub bytes: [u8; LONGEST],
     pub len: usize,
 }
 
 // A step hands out nothing, or a telegram of so many bytes, or refuses.
-#[derive(Drop)]
+#[derive(Clone, Copy)]
 pub enum Gathered {
     Nothing,
     Telegram(usize),
@@ -31,7 +31,7 @@ pub enum Gathered {
 }
 
 // The state behind a step, which holds a telegram's bytes at its front, beside the answer.
-#[derive(Drop)]
+#[derive(Clone, Copy)]
 pub struct Step {
     pub gatherer: Gatherer,
     pub answer: Gathered,

@@ -7,7 +7,7 @@ use characters::marks::{CR, LF, UNFINISHED};
 use characters::slices::{less, part};
 
 // Where a telegram lies: its LF at start, its CR before end; or none is left.
-#[derive(Drop)]
+#[derive(Clone, Copy)]
 pub enum Span {
     Found { start: usize, end: usize },
     Nothing,

@@ -4,7 +4,7 @@ ghost use Rattle.cutting.specs.Turns.{turn_of};
 
 use characters::marks::{CR, LF, UNFINISHED};
 
-#[derive(Drop)]
+#[derive(Clone, Copy)]
 pub enum Turn {
     // The byte is of the telegram, at this index: LF at 0.
     Joins(usize),

@@ -1,4 +1,5 @@
 // Runs damaged telegrams: the telegram of case h (rule W10) with every byte replaced by every value, and inputs of many lengths.
+#![tactic(auto)]
 mod rows;
 mod telegrams;
 

@@ -8,7 +8,7 @@ use records::refusals::{number_of, place_of};
 const H: [u8; 23] = *b"\n21B0L125%090H120R88EC\r";
 
 // A refusal and its place; 0 where the telegram is accepted.
-#[derive(Drop)]
+#[derive(Clone, Copy)]
 struct Due(u8, usize);
 
 // With the checksum as it was, another byte is refused by the first check that looks at it.

@@ -1,1 +1,2 @@
 // Our two ends over one line: demand 3. Theorems only.
+#![tactic(auto)]

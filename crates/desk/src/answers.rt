@@ -2,7 +2,7 @@
 use records::refusals::Refusal;
 
 // A call that hears nothing is done, or is done and notes the line lost, or refuses.
-#[derive(Drop)]
+#[derive(Clone, Copy)]
 pub enum Outcome {
     Done,
     Lost,

@@ -13,11 +13,12 @@ use crate::queue::{mark, reply};
 use crate::replying::Source;
 use crate::state::Desk;
 use characters::marks::LONGEST;
+use characters::slices::copy;
 use records::records::Record;
 use writing::sending::send;
 
 // The state behind a hearing, beside its answer.
-#[derive(Drop)]
+#[derive(Clone, Copy)]
 pub struct Hearing {
     pub desk: Desk,
     pub answer: Heard,
@@ -29,7 +30,7 @@ fn store(desk: Desk, sent: &[u8]) -> Desk
     ensures { result ≡ with_stored desk sent.now }
 {
     let mut bytes = [0u8; LONGEST];
-    let n = bytes::copy(sent, &mut bytes);
+    let n = copy(sent, &mut bytes);
     let mut d = desk;
     d.stored = bytes;
     d.kept = n;
@@ -55,7 +56,7 @@ fn repeat(desk: Desk, out: &mut [u8]) -> Hearing
 {
     let n = desk.kept;
     let stored = desk.stored;
-    let sent = bytes::copy(&stored[..n], out);
+    let sent = copy(&stored[..n], out);
     Hearing {
         desk,
         answer: Heard::Repeat(sent),

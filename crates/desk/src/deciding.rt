@@ -12,7 +12,7 @@ use records::records::{Record, type_of};
 use records::refusals::{Refusal, number_of};
 
 // What a telegram in a good frame is.
-#[derive(Drop)]
+#[derive(Clone, Copy)]
 pub enum Matter {
     // contents refused 8 to 11
     Contents(Refusal),
@@ -27,7 +27,7 @@ pub enum Matter {
 }
 
 // The rule that settles a hearing, with its data.
-#[derive(Drop)]
+#[derive(Clone, Copy)]
 pub enum Rule {
     // refused 1 to 5, 7, or 6 with another number byte: silent
     Silent(Refusal),

@@ -3,7 +3,7 @@ use crate::replying::Source;
 use records::refusals::Refusal;
 
 // What hearing a frame answers. The flag says that this call noted the line lost; the last number is that of the bytes sent.
-#[derive(Drop)]
+#[derive(Clone, Copy)]
 pub enum Heard {
     // the call refuses
     Refused(Refusal),

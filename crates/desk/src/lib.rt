@@ -1,4 +1,5 @@
 // The desk, the slave's end of a line (rules D1 to D19).
+#![tactic(auto)]
 pub mod answers;
 pub mod applying;
 pub mod clearing;

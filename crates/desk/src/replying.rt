@@ -9,14 +9,14 @@ use records::records::Record;
 use records::refusals::Refusal;
 
 // The record set for r, where one is set.
-#[derive(Drop)]
+#[derive(Clone, Copy)]
 pub enum Wanted {
     None,
     Is(Record),
 }
 
 // Where an answer to a handled telegram comes from.
-#[derive(Drop)]
+#[derive(Clone, Copy)]
 pub enum Source {
     // r: the record set for it
     Requested,
@@ -35,7 +35,7 @@ pub enum Source {
 }
 
 // The record that answers, and where it comes from.
-#[derive(Drop)]
+#[derive(Clone, Copy)]
 pub struct Reply {
     pub rec: Record,
     pub source: Source,

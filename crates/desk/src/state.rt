@@ -16,7 +16,7 @@ use records::refusals::Refusal;
 
 // Its line; whether the line is good; the last number taken; T1's start; the stored answer's length and bytes; the record set for r;
 // the queue's count and places, the oldest first; the key position.
-#[derive(Drop)]
+#[derive(Clone, Copy)]
 pub struct Desk {
     pub line: u8,
     pub good: bool,
@@ -31,7 +31,7 @@ pub struct Desk {
 }
 
 // The state behind a call that hears nothing, beside its answer.
-#[derive(Drop)]
+#[derive(Clone, Copy)]
 pub struct Step {
     pub desk: Desk,
     pub answer: Outcome,

@@ -8,7 +8,7 @@ use characters::marks::{LONGEST, SHORTEST};
 use records::records::Record;
 
 // A record that waits in the queue.
-#[derive(Drop)]
+#[derive(Clone, Copy)]
 pub struct Waiting {
     pub rec: Record,
 }

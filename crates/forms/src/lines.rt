@@ -6,7 +6,7 @@ ghost use Rattle.forms.specs.Lines.{is_line, line_of, is_key};
 pub const LINE_COUNT: usize = 3;
 
 // A line: the type that the master polls with, T0's limit while it is reduced and T0's limit (the same where it never is), and whether A carries a key position when it answers t.
-#[derive(Drop)]
+#[derive(Clone, Copy)]
 pub struct Line {
     pub poll: u8,
     pub reduced: u32,
@@ -50,6 +50,7 @@ pub fn is_line(line: u8) -> bool
 }
 
 // The row of a line, and a row that polls with nothing where there is no such line.
+#[tactic(auto, unfolding(crate::specs::Lines::line_of))]
 pub fn line_of(line: u8) -> Line
     ensures { result ≡ line_of line }
 {

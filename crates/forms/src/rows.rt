@@ -5,7 +5,7 @@ ghost use Rattle.forms.specs.Rows.{forms};
 use crate::lines::LINE_COUNT;
 
 // A form: its type, the lines it is on, whether the master sends it (else the slave does), and its packets' letters and value lengths.
-#[derive(Drop)]
+#[derive(Clone, Copy)]
 pub struct Form {
     pub kind: u8,
     pub lines: [bool; LINE_COUNT],
@@ -134,6 +134,7 @@ pub const FORMS: [Form; ROW_COUNT] = [
 ];
 
 // The rows of the table.
+#[tactic(auto, unfolding(crate::specs::Rows::forms))]
 pub fn rows() -> [Form; ROW_COUNT]
     ensures { result ≡ forms }
 {

@@ -8,13 +8,14 @@ use crate::rows::{Form, ROW_COUNT, rows};
 use characters::slices::wide;
 
 // A row that was looked for.
-#[derive(Drop)]
+#[derive(Clone, Copy)]
 pub struct Looked {
     pub found: bool,
     pub form: Form,
 }
 
 // Whether a form is on a line.
+#[tactic(auto, unfolding(crate::specs::Forms::on_line))]
 pub(crate) fn on_line(form: Form, line: u8) -> bool
     ensures { result ≡ on_line form line }
 {
@@ -27,7 +28,7 @@ pub(crate) fn on_line(form: Form, line: u8) -> bool
 }
 
 // What is looked for in the table: a row of a type, one whose first packet has a letter besides, or the slave's data.
-#[derive(Drop)]
+#[derive(Clone, Copy)]
 enum Sought {
     Kind(u8),
     Letter(u8, u8),
@@ -157,6 +158,7 @@ pub fn data_type(line: u8) -> u8
 }
 
 // How many packets a form has, at most ten.
+#[tactic(auto, unfolding(crate::specs::Forms::count_of))]
 pub fn count_of(form: Form) -> usize
     ensures { result ≡ count_of form }
 {

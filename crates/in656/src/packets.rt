@@ -100,7 +100,7 @@ fn letter_place(form: Form, letter: u8) -> usize
 }
 
 // Where the value of a letter lies in a block, or why there is none.
-#[derive(Drop)]
+#[derive(Clone, Copy)]
 pub enum Lies {
     At(usize),
     Refused(Refusal),

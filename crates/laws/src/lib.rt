@@ -1,1 +1,2 @@
 // Laws that the proofs of every crate share. No code.
+#![tactic(auto)]

@@ -1,4 +1,5 @@
 // The listing program (rules P1 to P6): lists the telegrams of standard input. It reads, calls a turn of the listing, and writes.
+#![tactic(auto)]
 use captures::lister::Lister;
 use captures::turn::list;
 use pieces::wants::Wants;

@@ -5,7 +5,7 @@ ghost use Rattle.logs.specs.Marks.{mark_of, mark_bytes, may_have};
 use characters::marks::LONGEST;
 
 // A sending by the master, one by the slave, a hit.
-#[derive(Drop)]
+#[derive(Clone, Copy)]
 pub enum Mark {
     Master,
     Slave,
@@ -13,7 +13,7 @@ pub enum Mark {
 }
 
 // Two bytes are a mark, or none.
-#[derive(Drop)]
+#[derive(Clone, Copy)]
 pub enum Marked {
     Is(Mark),
     Unknown,

@@ -11,7 +11,7 @@ use text::fours::four_said;
 pub const HEAD: usize = 7;
 
 // What stands at a place of a log: a record, whose bytes go from start to end, where the next begins; nothing, at the end; or a refusal.
-#[derive(Drop)]
+#[derive(Clone, Copy)]
 pub enum Next {
     Record {
         mark: Mark,

@@ -13,7 +13,7 @@ use records::records::{Record, type_of};
 use records::refusals::Refusal;
 
 // What a heard frame is.
-#[derive(Drop)]
+#[derive(Clone, Copy)]
 pub enum Verdict {
     // refused 1 to 7
     Refused(Refusal),

@@ -4,7 +4,7 @@ use records::records::Record;
 use records::refusals::Refusal;
 
 // Which sending of a telegram it is: the first of an offered record, one again, or the first of a poll.
-#[derive(Drop)]
+#[derive(Clone, Copy)]
 pub enum Sending {
     Offered,
     Again,
@@ -12,14 +12,14 @@ pub enum Sending {
 }
 
 // Why a telegram was given up: T2 ran out behind the third sending, or N with 1 or 2 answered it.
-#[derive(Drop)]
+#[derive(Clone, Copy)]
 pub enum Cause {
     Silence,
     Rejected,
 }
 
 // Why a hearing was ignored.
-#[derive(Drop)]
+#[derive(Clone, Copy)]
 pub enum Reason {
     Free,
     RunOut,
@@ -28,7 +28,7 @@ pub enum Reason {
 }
 
 // What a call did. A count is the sending count, 1 to 3.
-#[derive(Drop)]
+#[derive(Clone, Copy)]
 pub enum Answer {
     Refused(Refusal),
     Nothing,

@@ -18,7 +18,7 @@ use values::values::permits_record;
 
 // A count of 0 is free; 1 to 3 are the sendings made of rec's telegram. While free, rec and T2's start are not looked at and stay as they were.
 // operation: the last A that answered t said that the key is in position Operation.
-#[derive(Drop)]
+#[derive(Clone, Copy)]
 pub struct Master {
     pub line: u8,
     pub good: bool,
@@ -31,7 +31,7 @@ pub struct Master {
 }
 
 // The state behind a call, and its answer.
-#[derive(Drop)]
+#[derive(Clone, Copy)]
 pub struct Step {
     pub master: Master,
     pub answer: Answer,

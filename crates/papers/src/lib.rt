@@ -1,1 +1,2 @@
 // Theorems that hold the definitions to the papers.
+#![tactic(auto)]

@@ -4,7 +4,7 @@ ghost use Rattle.std.specs.Prelude.{◌≡◌, length};
 ghost use Rattle.records.specs.Records.{type_of, letter_of, fields_of, values_of, record_of};
 
 // The packets F D C M V P, which K, O and 1 share. The watch, V, is its two characters as one number, the left times 256 plus the right.
-#[derive(Drop)]
+#[derive(Clone, Copy)]
 pub struct Radio {
     pub fc: u32,
     pub d: u32,
@@ -15,7 +15,7 @@ pub struct Radio {
 }
 
 // Each case says the type letter of its telegram.
-#[derive(Drop)]
+#[derive(Clone, Copy)]
 pub enum Record {
     // A
     Approved(u32),
@@ -216,6 +216,7 @@ fn radio_of(v: [u32; 10]) -> Radio
 }
 
 // The record of a type letter and its values; a letter that no form has gives the record of A.
+#[tactic(auto, unfolding(crate::specs::Records::record_of))]
 pub fn record_of(kind: u8, v: [u32; 10]) -> Record
     ensures { result ≡ record_of kind v }
 {

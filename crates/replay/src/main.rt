@@ -1,4 +1,5 @@
 // The replay program (rules Q9 to Q14): runs a fresh desk of a line over the log of standard input. It reads, calls a turn of the replay, and writes.
+#![tactic(auto)]
 use characters::slices::part;
 use pieces::wants::Wants;
 use recordings::replay::state::Replayer;

@@ -5,7 +5,7 @@ use scripts::kinds::{Kind, kind_of};
 use scripts::printing::{put_comment, put_elapsed, put_unknown};
 use stdio::output::write_out;
 
-#[derive(Drop)]
+#[derive(Clone, Copy)]
 pub(crate) struct Ends {
     pub desk: Desk,
     pub master: Master,

@@ -12,6 +12,7 @@
 //
 // A RECORD is a type and its values as decimal numbers, B 125 90 120 88. A FRAME is bytes: < for LF, > for CR, =HH for the byte HH hex.
 // An empty row and one that begins with # are only said again; any other row that names no call is said to be none.
+#![tactic(auto)]
 mod ends;
 mod script;
 

@@ -5,7 +5,7 @@ use std::num::wrapping_add_usize;
 use stdio::input::{Got, read_more};
 
 // Where a piece of the input is read, how many bytes it has, how many a row has so far, whether it is whole, and whether more may come.
-#[derive(Drop)]
+#[derive(Clone, Copy)]
 struct Input {
     at: usize,
     end: usize,

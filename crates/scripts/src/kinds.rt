@@ -6,7 +6,7 @@ use crate::meanings::named;
 use crate::numbers::are_numbers;
 
 // A row of the desk, of the master or of elapsed time; else a comment, or unknown.
-#[derive(Drop)]
+#[derive(Clone, Copy)]
 pub enum Kind {
     Desk,
     Master,

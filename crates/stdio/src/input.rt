@@ -6,7 +6,7 @@ use crate::trouble::try_again;
 use libc::STDIN_FILENO;
 
 // So many bytes were got, none at the end of the input; or the read failed, and standard error says so.
-#[derive(Drop)]
+#[derive(Clone, Copy)]
 pub enum Got {
     Bytes(usize),
     Failed,

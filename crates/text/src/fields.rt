@@ -79,6 +79,7 @@ fn still(all: bool, x: u8, y: u8) -> bool
 }
 
 // Whether two texts are the same.
+#[tactic(auto, unfolding(crate::specs::Fields::same_text))]
 pub fn same(a: &[u8], b: &[u8]) -> bool
     ensures { result ≡ same_text a.now b.now }
 {

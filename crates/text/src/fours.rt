@@ -20,6 +20,7 @@ pub fn put_four(out: &mut [u8], at: usize, n: u32) -> usize
 }
 
 // The number that the first four bytes say, 0 for each that is not there.
+#[tactic(auto, unfolding(crate::specs::Fours::four_said))]
 pub fn four_said(s: &[u8]) -> u32
     ensures { result ≡ four_said s.now }
 {

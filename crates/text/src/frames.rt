@@ -8,6 +8,7 @@ use crate::putting::put_byte;
 use characters::slices::{byte_at, part};
 
 // The byte that a character means where none stands for hex digits.
+#[tactic(auto, unfolding(crate::specs::Frames::end_meant))]
 pub fn end_meant(b: u8) -> u8
     ensures { result ≡ end_meant b }
 {
@@ -19,6 +20,7 @@ pub fn end_meant(b: u8) -> u8
 }
 
 // The byte that begins at a place of a text.
+#[tactic(auto, unfolding(crate::specs::Frames::byte_meant))]
 fn byte_meant(text: &[u8], at: usize) -> u8
     ensures { result ≡ byte_meant (drop at text.now) }
 {
@@ -31,6 +33,7 @@ fn byte_meant(text: &[u8], at: usize) -> u8
 }
 
 // The place behind it.
+#[tactic(auto, unfolding(crate::specs::Frames::passed))]
 fn next(text: &[u8], at: usize) -> usize
     requires { at < length text.now }
     ensures { (at < result) × (drop result text.now ≡ drop (passed (slice_index text.now at)) (drop (at + 1) text.now)) }
@@ -57,6 +60,7 @@ pub fn put_meant(out: &mut [u8], at: usize, text: &[u8]) -> usize
     place
 }
 
+#[tactic(auto, unfolding(crate::specs::Frames::shown_byte))]
 fn shown(b: u8) -> u8
     ensures { result ≡ shown_byte b }
 {
@@ -68,6 +72,7 @@ fn shown(b: u8) -> u8
 }
 
 // Bytes, with LF and CR in their readable form.
+#[tactic(auto, unfolding(crate::specs::Putting::puts, crate::specs::Frames::shown_as))]
 pub fn put_shown(out: &mut [u8], at: usize, bytes: &[u8]) -> usize
     ensures { (result, out.new) ≡ puts (shown_as bytes.now) at out.old }
 {

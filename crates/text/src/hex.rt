@@ -7,6 +7,7 @@ ghost use Rattle.text.specs.Hex.{hex_digit, hex_says};
 use crate::putting::put_byte;
 use characters::checksum::hex;
 
+#[tactic(auto, unfolding(crate::specs::Putting::puts, characters::specs::Checksum::check_text))]
 pub fn put_hex(out: &mut [u8], at: usize, byte: u8) -> usize
     ensures { (result, out.new) ≡ puts (check_text byte) at out.old }
 {
@@ -15,6 +16,7 @@ pub fn put_hex(out: &mut [u8], at: usize, byte: u8) -> usize
 }
 
 // What one digit says; other characters say 0.
+#[tactic(auto, unfolding(crate::specs::Hex::hex_digit))]
 fn digit_value(b: u8) -> u8
     ensures { (result ≡ hex_digit b) × (result < 16) }
 {
@@ -26,6 +28,7 @@ fn digit_value(b: u8) -> u8
 }
 
 // The byte that two digits say.
+#[tactic(auto, unfolding(crate::specs::Hex::hex_says))]
 pub fn hex_value(high: u8, low: u8) -> u8
     ensures { result ≡ hex_says high low }
 {

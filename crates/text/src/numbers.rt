@@ -46,6 +46,7 @@ fn with_digit(n: u64, b: u8) -> u64
 }
 
 // The number that decimal digits say, of 64 bits.
+#[tactic(auto, unfolding(crate::specs::Numbers::number_said))]
 pub fn number(s: &[u8]) -> u64
     ensures { result ≡ number_said s.now }
 {

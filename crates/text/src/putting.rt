@@ -2,8 +2,9 @@
 ghost use Rattle.std.specs.Prelude.{◌≡◌, [], ◌∷◌};
 ghost use Rattle.text.specs.Putting.{puts};
 
-use characters::slices::byte_at;
+use characters::slices::{byte_at, copy};
 
+#[tactic(auto, unfolding(crate::specs::Putting::puts))]
 pub fn put_byte(out: &mut [u8], at: usize, byte: u8) -> usize
     ensures { (result, out.new) ≡ puts (byte ∷ []) at out.old }
 {
@@ -15,6 +16,7 @@ pub fn put_byte(out: &mut [u8], at: usize, byte: u8) -> usize
 }
 
 // Byte after byte, while there is room.
+#[tactic(auto, unfolding(crate::specs::Putting::puts))]
 fn put_each(out: &mut [u8], at: usize, text: &[u8]) -> usize
     ensures { (result, out.new) ≡ puts text.now at out.old }
 {
@@ -36,6 +38,6 @@ pub fn put_text(out: &mut [u8], at: usize, text: &[u8]) -> usize
         return put_each(out, at, text);
     }
     let end = at + text.len();
-    bytes::copy(text, &mut out[at..end]);
+    copy(text, &mut out[at..end]);
     end
 }

@@ -9,7 +9,7 @@ use crate::numbers::put_number;
 use crate::putting::put_text;
 use std::num::wrapping_add_u64;
 
-#[derive(Drop)]
+#[derive(Clone, Copy)]
 pub struct Tally {
     pub rows: u64,
     pub differ: u64,

@@ -7,7 +7,7 @@ use records::refusals::{Refusal, number_of, place_of};
 
 // The last fields of the header's structure, in their order: later libraries of the edition fill them.
 #[repr(C)]
-#[derive(Drop)]
+#[derive(Clone, Copy)]
 pub struct Later {
     pub sum: u32,
     pub found: u32,
@@ -21,7 +21,7 @@ pub struct Later {
 
 // The fields of the header's structure, in their order; filled is its `record`.
 #[repr(C)]
-#[derive(Drop)]
+#[derive(Clone, Copy)]
 pub struct In656Result {
     pub refusal: u32,
     pub outcome: u32,

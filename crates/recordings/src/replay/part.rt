@@ -16,7 +16,7 @@ use text::putting::put_byte;
 pub const ROW_ROOM: usize = 1024;
 
 // A row is put; or there is no room for one; or what follows may change what stands there; or the replay is over.
-#[derive(Drop)]
+#[derive(Clone, Copy)]
 pub enum Stop {
     Goes,
     Full,
@@ -25,7 +25,7 @@ pub enum Stop {
 }
 
 // The desk behind a record, where the next begins, how many bytes its row has, and how it goes on.
-#[derive(Drop)]
+#[derive(Clone, Copy)]
 pub struct Put {
     pub desk: Desk,
     pub end: usize,
@@ -114,7 +114,7 @@ fn put_next(desk: Desk, ordinal: u64, offset: u64, s: &[u8], from: usize, out: &
 }
 
 // How far a replay got: the desk, the ordinal and the place of what comes next, how many bytes of rows there are, and why it stopped.
-#[derive(Drop)]
+#[derive(Clone, Copy)]
 pub struct Replayed {
     pub desk: Desk,
     pub ordinal: u64,

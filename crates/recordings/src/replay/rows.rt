@@ -14,7 +14,7 @@ use reading::reading::read;
 use records::answers::Reading;
 
 // The desk behind a record, beside how many bytes of the output the row prints.
-#[derive(Drop)]
+#[derive(Clone, Copy)]
 pub struct Rowed {
     pub desk: Desk,
     pub length: usize,

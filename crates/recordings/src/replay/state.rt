@@ -13,7 +13,7 @@ use records::answers::Check;
 use records::refusals::Refusal;
 
 // Between two turns: the desk, the next record's ordinal, the offset of the first byte held, how many bytes are held in front of the buffer, and what it wants.
-#[derive(Drop)]
+#[derive(Clone, Copy)]
 pub struct Replayer {
     pub desk: Desk,
     pub ordinal: u64,
@@ -23,7 +23,7 @@ pub struct Replayer {
 }
 
 // A state behind a start, and what refuses it.
-#[derive(Drop)]
+#[derive(Clone, Copy)]
 pub struct Started {
     pub replayer: Replayer,
     pub answer: Check,

@@ -15,7 +15,7 @@ use records::refusals::Refusal;
 use text::putting::put_text;
 
 // The state behind a turn, and how many bytes of the output are to be written, or its refusal.
-#[derive(Drop)]
+#[derive(Clone, Copy)]
 pub struct Step {
     pub replayer: Replayer,
     pub answer: Writing,

@@ -17,7 +17,7 @@ use desk::state::{Desk, Step};
 use text::fields::word_value;
 
 // The desk behind a row, beside how many bytes of the output the row prints.
-#[derive(Drop)]
+#[derive(Clone, Copy)]
 pub struct Printed {
     pub desk: Desk,
     pub length: usize,

@@ -6,7 +6,7 @@ use crate::meanings::named;
 use crate::numbers::are_numbers;
 
 // The calls that hear nothing.
-#[derive(Drop)]
+#[derive(Clone, Copy)]
 pub enum Quiet {
     Start,
     Tick,
@@ -18,7 +18,7 @@ pub enum Quiet {
 }
 
 // The numbers of the state that a row may alter.
-#[derive(Drop)]
+#[derive(Clone, Copy)]
 pub enum Field {
     Line,
     Good,
@@ -28,7 +28,7 @@ pub enum Field {
     Key,
 }
 
-#[derive(Drop)]
+#[derive(Clone, Copy)]
 pub enum Call {
     Quiet(Quiet),
     Hear,

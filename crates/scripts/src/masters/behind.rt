@@ -16,7 +16,7 @@ use master::state::{Master, Step};
 use text::fields::word_value;
 
 // The master behind a row, beside how many bytes of the output the row prints.
-#[derive(Drop)]
+#[derive(Clone, Copy)]
 pub struct Printed {
     pub master: Master,
     pub length: usize,

@@ -6,7 +6,7 @@ use crate::meanings::named;
 use crate::numbers::are_numbers;
 
 // The calls that may send.
-#[derive(Drop)]
+#[derive(Clone, Copy)]
 pub enum Sends {
     Tick,
     Offer,
@@ -14,7 +14,7 @@ pub enum Sends {
 }
 
 // The numbers of the state that a row may alter.
-#[derive(Drop)]
+#[derive(Clone, Copy)]
 pub enum Field {
     Line,
     Number,
@@ -22,7 +22,7 @@ pub enum Field {
     Operation,
 }
 
-#[derive(Drop)]
+#[derive(Clone, Copy)]
 pub enum Call {
     Start,
     Sends(Sends),
