@@ -44,30 +44,30 @@ sent-off which m n rec count at number bytes out new p l room e q f =
     let g : (bytes, new) ≡ send_of m.line rec m.number.0 out = rw q at f in
     rw (e, ← (g ∙ sent-whole m.line rec m.number.0 out p l room))
 
-module _ (ground : Ground) (g : Bool) (m : Master) (at : ℕ) (out : List ℕ) where
-  pub gave-up : m.count ≡ 3 → (n : Master) → n ≡ given_up_state (with_line m g) → (n, (given_up ground m.count, out)) ≡ failed_of ground g m at out
+module _ (cause : Ground) (g : Bool) (m : Master) (at : ℕ) (out : List ℕ) where
+  pub gave-up : m.count ≡ 3 → (n : Master) → n ≡ given_up_state (with_line m g) → (n, (given_up cause m.count, out)) ≡ failed_of cause g m at out
   unfolding failed_of
   gave-up h n e = rw (e, eq-eqb m.count 3 h)
 
-  pub sent-again : ¬ (m.count ≡ 3) → sending_of again m m.rec (m.count + 1) at out ≡ failed_of ground g m at out
+  pub sent-again : ¬ (m.count ≡ 3) → sending_of again m m.rec (m.count + 1) at out ≡ failed_of cause g m at out
   unfolding failed_of
   sent-again h = rw (ne_eqb m.count 3 h)
 
-  pub fail-refused : (x : Refusal) → fails (refusal_of x) ≡ call_fault m (length out) → (s : Step) → s ≡ refusing m x → stepped s out ≡ fail_of ground g m at out
+  pub fail-refused : (x : Refusal) → fails (refusal_of x) ≡ call_fault m (length out) → (s : Step) → s ≡ refusing m x → stepped s out ≡ fail_of cause g m at out
   unfolding fail_of
   fail-refused x h s e = rw (e, ← h)
 
   module _ (k : good ≡ call_fault m (length out)) where
-    pub fail-free : m.count ≡ 0 → (s : Step) → s ≡ unmoved m → stepped s out ≡ fail_of ground g m at out
+    pub fail-free : m.count ≡ 0 → (s : Step) → s ≡ unmoved m → stepped s out ≡ fail_of cause g m at out
     unfolding fail_of
     fail-free h s e = rw (e, ← k, eq-eqb m.count 0 h)
 
-    pub fail-busy : ¬ (m.count ≡ 0) → failed_of ground g m at out ≡ fail_of ground g m at out
+    pub fail-busy : ¬ (m.count ≡ 0) → failed_of cause g m at out ≡ fail_of cause g m at out
     unfolding fail_of
     fail-busy h = rw (← k, ne_eqb m.count 0 h)
 
   -- a state that passes the checks and is not free
-  pub fail-passed : in_ranges m ≡ true → is_free m ≡ false → longest ≤ length out → fail_of ground g m at out ≡ failed_of ground g m at out
+  pub fail-passed : in_ranges m ≡ true → is_free m ≡ false → longest ≤ length out → fail_of cause g m at out ≡ failed_of cause g m at out
   unfolding fail_of
   fail-passed h b room = rw (← (passes m (length out) h room), b)
 
