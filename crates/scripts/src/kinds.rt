@@ -16,6 +16,7 @@ pub enum Kind {
 }
 
 // An empty row and one that begins with # are comments.
+#[tactic(auto, unfolding(crate::specs::Kinds::unnamed_of))]
 fn unnamed(row: &[u8]) -> Kind
     ensures { result ≡ unnamed_of row.now }
 {
@@ -29,6 +30,7 @@ fn unnamed(row: &[u8]) -> Kind
 }
 
 // Elapsed time takes two numbers.
+#[tactic(auto, unfolding(crate::specs::Kinds::elapsed_row))]
 fn elapsed(row: &[u8]) -> Kind
     ensures { result ≡ elapsed_row row.now }
 {
@@ -40,6 +42,7 @@ fn elapsed(row: &[u8]) -> Kind
 }
 
 // By the number of the first word among those that name a row.
+#[tactic(auto, unfolding(crate::specs::Kinds::kind_numbered))]
 fn kind_numbered(n: usize, row: &[u8]) -> Kind
     ensures { result ≡ kind_numbered n row.now }
 {
@@ -51,6 +54,7 @@ fn kind_numbered(n: usize, row: &[u8]) -> Kind
     }
 }
 
+#[tactic(auto, unfolding(crate::specs::Kinds::kind_of))]
 pub fn kind_of(row: &[u8]) -> Kind
     ensures { result ≡ kind_of row.now }
 {

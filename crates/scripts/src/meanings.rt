@@ -27,6 +27,7 @@ pub fn small(row: &[u8], at: usize) -> u8
 pub const MOST_ROOM: usize = 128;
 
 // The room that a row gives an output.
+#[tactic(auto, unfolding(crate::specs::Meanings::room_of))]
 pub fn room(row: &[u8]) -> usize
     ensures { result ≡ room_of row.now }
 {

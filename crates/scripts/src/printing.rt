@@ -125,6 +125,7 @@ pub fn first(out: &mut [u8], at: usize, word: &[u8], bytes: &[u8], n: usize) -> 
 }
 
 // What stands in an output that held # all over before the call.
+#[tactic(auto, unfolding(crate::specs::Printing::output_text))]
 pub fn output(out: &mut [u8], at: usize, sent: &[u8]) -> usize
     ensures { (result, out.new) ≡ puts (output_text sent.now) at out.old }
 {

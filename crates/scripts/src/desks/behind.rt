@@ -47,6 +47,7 @@ fn step(d: Desk, quiet: Quiet, row: &[u8]) -> Step
     }
 }
 
+#[tactic(auto, unfolding(crate::specs::Desks::Behind::stepped_row))]
 fn stepped(step: Step, row: &[u8], out: &mut [u8]) -> Printed
     ensures { (result.desk, (result.length, out.new)) ≡ printed (stepped_row row.now (step.desk, done_of step.answer)) out.old }
 {
@@ -57,6 +58,7 @@ fn stepped(step: Step, row: &[u8], out: &mut [u8]) -> Printed
     Printed { desk, length }
 }
 
+#[tactic(auto, unfolding(crate::specs::Desks::Behind::heard_row))]
 fn heard(hearing: Hearing, row: &[u8], sent: &[u8], out: &mut [u8]) -> Printed
     ensures { (result.desk, (result.length, out.new)) ≡ printed (heard_row row.now (hearing.desk, told_of hearing.answer, sent.now)) out.old }
 {
@@ -85,6 +87,7 @@ fn hear(d: Desk, row: &[u8], out: &mut [u8]) -> Printed
     hear_frame(d, row, part(&bytes, 0, n), &mut sent[..room], out)
 }
 
+#[tactic(auto, unfolding(crate::specs::Desks::Behind::altering_row))]
 fn alter(d: Desk, field: Field, row: &[u8], out: &mut [u8]) -> Printed
     ensures { (result.desk, (result.length, out.new)) ≡ printed (alter_row d field row.now) out.old }
 {
@@ -95,6 +98,7 @@ fn alter(d: Desk, field: Field, row: &[u8], out: &mut [u8]) -> Printed
 }
 
 // What is due, asked of a desk that stays as it is.
+#[tactic(auto, unfolding(crate::specs::Desks::Behind::due_row))]
 fn ask(d: Desk, row: &[u8], out: &mut [u8]) -> Printed
     ensures { (result.desk, (result.length, out.new)) ≡ printed (due_row d row.now) out.old }
 {
@@ -123,6 +127,7 @@ fn on_call(d: Desk, call: Call, row: &[u8], out: &mut [u8]) -> Printed
     }
 }
 
+#[tactic(auto, unfolding(crate::specs::Desks::Behind::on_row))]
 pub fn on_row(d: Desk, row: &[u8], out: &mut [u8]) -> Printed
     ensures { (result.desk, (result.length, out.new)) ≡ printed (on_row d row.now) out.old }
 {

@@ -39,6 +39,7 @@ pub enum Call {
 }
 
 // By the number of a field's word among those of the fields.
+#[tactic(auto, unfolding(crate::specs::Desks::Calls::alter_numbered))]
 fn alter_numbered(n: usize) -> Call
     ensures { result ≡ alter_numbered n }
 {
@@ -54,6 +55,7 @@ fn alter_numbered(n: usize) -> Call
 }
 
 // By the numbers of a call's word and of a field's word.
+#[tactic(auto, unfolding(crate::specs::Desks::Calls::call_numbered))]
 fn call_numbered(n: usize, field: usize) -> Call
     ensures { result ≡ call_numbered n field }
 {
@@ -103,6 +105,7 @@ fn well_numbered(call: Call, row: &[u8]) -> bool
 }
 
 // A row with a number that is none names no call.
+#[tactic(auto, unfolding(crate::specs::Desks::Calls::call_of, crate::specs::Desks::Calls::named_by))]
 pub fn call_of(row: &[u8]) -> Call
     ensures { result ≡ call_of row.now }
 {

@@ -22,6 +22,7 @@ pub struct Printed {
     pub length: usize,
 }
 
+#[tactic(auto, unfolding(crate::specs::Masters::Behind::did_row))]
 fn did(step: Step, row: &[u8], sent: &[u8], out: &mut [u8]) -> Printed
     ensures { (result.master, (result.length, out.new)) ≡ printed (did_row row.now (step.master, (told_of step.answer, sent.now))) out.old }
 {
@@ -77,6 +78,7 @@ fn make_row(m: Master, sends: Sends, row: &[u8], out: &mut [u8]) -> Printed
     make_in(m, sends, row, &mut sent[..room], out)
 }
 
+#[tactic(auto, unfolding(crate::specs::Masters::Behind::altering_row))]
 fn alter(m: Master, field: Field, row: &[u8], out: &mut [u8]) -> Printed
     ensures { (result.master, (result.length, out.new)) ≡ printed (alter_row m field row.now) out.old }
 {
@@ -87,6 +89,7 @@ fn alter(m: Master, field: Field, row: &[u8], out: &mut [u8]) -> Printed
 }
 
 // What is due, asked of a master that stays as it is.
+#[tactic(auto, unfolding(crate::specs::Masters::Behind::due_row))]
 fn ask(m: Master, row: &[u8], out: &mut [u8]) -> Printed
     ensures { (result.master, (result.length, out.new)) ≡ printed (due_row m row.now) out.old }
 {
@@ -115,6 +118,7 @@ fn on_call(m: Master, call: Call, row: &[u8], out: &mut [u8]) -> Printed
     }
 }
 
+#[tactic(auto, unfolding(crate::specs::Masters::Behind::on_row))]
 pub fn on_row(m: Master, row: &[u8], out: &mut [u8]) -> Printed
     ensures { (result.master, (result.length, out.new)) ≡ printed (on_row m row.now) out.old }
 {

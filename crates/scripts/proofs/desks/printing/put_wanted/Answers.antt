@@ -1,0 +1,12 @@
+-- `put_wanted` puts nothing, or the record behind its word. Assumes nothing.
+use Rattle.text.specs.Putting.{puts}
+use Rattle.scripts.specs.Desks.Printing.{set_text}
+use Rattle.scripts.proofs.desks.printing.put_wanted.Goals as goal
+
+pub returns-in-None : goal.returns-in-None
+unfolding puts
+returns-in-None c = rw c.in-None.is
+
+pub returns-in-Is : goal.returns-in-Is
+unfolding set_text
+returns-in-Is c = rw c.in-Is.is c.put_behind.ensures
