@@ -1,13 +1,7 @@
 -- `known` tests what is left behind a mark in the definition's order. Assumes nothing.
 use Rattle.std.proofs.Common.{sym, ◌∙◌, arith}
-use Rattle.laws.proofs.Tests.{tests}
-use Rattle.logs.specs.Reader.{known_in}
 use Rattle.logs.proofs.Found.{bad-length, bytes-missing, whole}
 use Rattle.logs.proofs.reader.known.Goals as goal
-
-pub returns-then-rest-lt-HEAD : goal.returns-then-rest-lt-HEAD
-unfolding known_in
-returns-then-rest-lt-HEAD c = search tests
 
 pub returns-then-not-may_have : goal.returns-then-not-may_have
 returns-then-not-may_have c =
