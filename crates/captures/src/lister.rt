@@ -33,6 +33,7 @@ pub enum Task {
 }
 
 // What a turn does on a line.
+#[tactic(auto, unfolding(crate::specs::Lister::line_task))]
 fn line_task(line: u8) -> Task
     ensures { result ≡ line_task line }
 {
@@ -58,6 +59,7 @@ impl Lister {
     }
 
     // Whether line and place are in their ranges: before the digit is known nothing is held, and then the listing goes on among the bytes held.
+    #[tactic(auto, unfolding(crate::specs::Lister::place_fits))]
     fn place_fits(self) -> bool
         ensures { result ≡ place_fits self }
     {
@@ -74,6 +76,7 @@ impl Lister {
     }
 
     // What refuses a turn: 15, then 14.
+    #[tactic(auto, unfolding(pieces::specs::Turns::room_fault))]
     pub(crate) fn list_check(self, len: usize, got: usize, room: usize) -> Check
         ensures { fault_of result ≡ list_fault self len got room }
     {
@@ -96,6 +99,7 @@ impl Lister {
     }
 
     // The line: the state's, or the one that the first byte names.
+    #[tactic(auto, unfolding(crate::specs::Lister::line_for))]
     pub(crate) fn line_for(self, s: &[u8]) -> u8
         ensures { result ≡ line_for self s.now }
     {
@@ -106,6 +110,7 @@ impl Lister {
     }
 
     // What a turn does behind a read: a read of nothing ends the listing.
+    #[tactic(auto, unfolding(crate::specs::Lister::read_task))]
     fn read_task(self, got: usize, s: &[u8]) -> Task
         ensures { result ≡ read_task self got s.now }
     {

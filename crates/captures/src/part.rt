@@ -18,6 +18,7 @@ enum NextLine {
 }
 
 // The line of the next telegram, from the front of an output.
+#[tactic(auto, unfolding(crate::specs::Part::next_line_of))]
 fn put_next(line: u8, ordinal: u64, base: u64, s: &[u8], from: usize, out: &mut [u8]) -> NextLine
     ensures { (result, out.new) ≡ next_line_of line ordinal base s.now from out.old }
 {

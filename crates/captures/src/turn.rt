@@ -20,6 +20,7 @@ pub struct Step {
 }
 
 // No input, or another first byte: `no 15 0`, and nothing else.
+#[tactic(auto, unfolding(crate::specs::Turn::unnamed))]
 fn unnamed(lister: Lister, out: &mut [u8]) -> Step
     ensures { (result.lister, (outcome_of result.answer, out.new)) ≡ unnamed lister out.old }
 {
