@@ -55,8 +55,8 @@ rows-by-hand (r ∷ rs) ending d ordinal n =
     (made_of (wrapped (ordinal + 1)) (wrapped (n + size_of r)) rs) (end_row ending (wrapped (n + size_of r + sizes_of rs)))
     (λ e. rows-by-hand rs ending e (wrapped (ordinal + 1)) (n + size_of r)))
 
-pub by_hand : ByHand
+pub by-hand : ByHand
 unfolding replay_on by_hand
-by_hand line log =
+by-hand line log =
     let z : 0 + sizes_of (log_of log).0 ≡ sizes_of (log_of log).0 = omega arith in
     rw z at (rows-by-hand (log_of log).0 (log_of log).1 (start_of line).0 1 0)

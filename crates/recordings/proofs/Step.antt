@@ -83,9 +83,9 @@ module _ (base : ℕ) (s : List ℕ) (d : Desk) (ordinal place filled : ℕ) (ou
         let n : place + behind - (place + start) ≡ behind - start = omega arith in
         rw (n, ← (drop-drop start place s))
 
-    goes_on : all ≡ on_from base (log_of (drop behind (drop place s))) row.0 (wrapped (ordinal + 1)) (place + behind) (filled + length row.1) (placed row.1 filled out).1
+    goes-on : all ≡ on_from base (log_of (drop behind (drop place s))) row.0 (wrapped (ordinal + 1)) (place + behind) (filled + length row.1) (placed row.1 filled out).1
     unfolding part_in
-    goes_on =
+    goes-on =
         ap (λ (log : Log). on_from base log d ordinal place filled out) (on-found (drop place s) mark time start behind e)
         ∙ rw (open-room, size_is (drop place s) mark time start behind e)
 
@@ -94,7 +94,7 @@ module _ (base : ℕ) (s : List ℕ) (d : Desk) (ordinal place filled : ℕ) (ou
     found-told =
         let w = ends (drop place s) mark time start behind e in
         rw same_bytes
-        (λ l. (omega (arith, w.1), omega (arith, w.1, w.2, length-drop place s), rw (text_in row.1 l, ← (drop-drop behind place s)) (sym goes_on)))
+        (λ l. (omega (arith, w.1), omega (arith, w.1, w.2, length-drop place s), rw (text_in row.1 l, ← (drop-drop behind place s)) (sym goes-on)))
 
   refused-told : (x : No) → record_in 0 (drop place s) ≡ refused x → (b : Bool) → eqb x.number 20 ≡ b
       → TellsOf (cond {A = Put × List ℕ} b (put d place 0 Waits, mid) (text_put d place Over (refused_text x.number offset) mid))

@@ -21,6 +21,7 @@ pub struct Rowed {
 }
 
 // What was heard, what hearing it answered, and what it sent.
+#[tactic(auto, unfolding(crate::specs::Replay::Rows::heard_row))]
 fn heard(
     hearing: Hearing,
     ordinal: u64,
@@ -39,6 +40,7 @@ fn heard(
 }
 
 // The desk hears the bytes as one frame, with room enough for any answer.
+#[tactic(auto, unfolding(crate::specs::Replay::Rows::hear_row))]
 fn hear_row(desk: Desk, ordinal: u64, offset: u64, time: u32, frame: &[u8], out: &mut [u8]) -> Rowed
     ensures { (result.desk, (result.length, out.new)) ≡ printed (hear_row desk ordinal offset time frame.now) out.old }
 {
@@ -49,6 +51,7 @@ fn hear_row(desk: Desk, ordinal: u64, offset: u64, time: u32, frame: &[u8], out:
 }
 
 // The desk gets a tick.
+#[tactic(auto, unfolding(crate::specs::Replay::Rows::tick_row, crate::specs::Replay::Rows::ticked_row))]
 fn tick_row(desk: Desk, ordinal: u64, offset: u64, time: u32, out: &mut [u8]) -> Rowed
     ensures { (result.desk, (result.length, out.new)) ≡ printed (tick_row desk ordinal offset time) out.old }
 {
@@ -63,6 +66,7 @@ fn tick_row(desk: Desk, ordinal: u64, offset: u64, time: u32, out: &mut [u8]) ->
 }
 
 // What the desk does at a record: it hears a sending by the master, gets a tick at a hit, and passes over one by the slave.
+#[tactic(auto, unfolding(text::specs::Putting::puts))]
 pub(crate) fn put_row(
     desk: Desk,
     mark: Mark,

@@ -45,6 +45,7 @@ pub(crate) fn begun(line: u8) -> Replayer
 }
 
 // A start on a line; refused 15, with the blank desk of line 0, where there is no such line.
+#[tactic(auto, unfolding(crate::specs::Replay::State::started_on))]
 pub fn start(line: u8) -> Started
     ensures { (result.replayer, fault_of result.answer) ≡ started_on line }
 {
@@ -63,6 +64,7 @@ pub fn start(line: u8) -> Started
 
 // What refuses a turn: 15 where the desk is out of its ranges or the bytes held and got are not in the buffer, then 14 where there is no room for a row, or for
 // a whole record.
+#[tactic(auto, unfolding(pieces::specs::Turns::room_fault))]
 pub(crate) fn turn_check(replayer: Replayer, len: usize, got: usize, room: usize) -> Check
     ensures { fault_of result ≡ turn_fault replayer len got room }
 {
