@@ -43,7 +43,3 @@ pub behind-mark : (at : ℕ) (s : List ℕ) (left right : ℕ) (m : Marked) (x :
     → x ≡ marked_in m at s → x ≡ record_in at s
 unfolding record_in
 behind-mark at s left right m x h g l r e f = rw (ne_eqb (length s) 0 h, ne_eqb (length s) 1 g, ← l, ← r, ← e) f
-
--- a record's part of the log
-pub part_of : (start behind n : ℕ) (log r : List ℕ) → n ≡ behind - start → r ≡ take n (drop start log) → r ≡ take (behind - start) (drop start log)
-part_of start behind n log r e h = h ∙ ap (λ (k : ℕ). take k (drop start log)) e

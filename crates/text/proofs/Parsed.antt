@@ -3,21 +3,9 @@ use Rattle.std.proofs.Common.{◌≡◌, ℕ, suc, ◌+◌, ◌-◌, ◌*◌, �
 use native.Mathlib.Nat.{add-mod, mod-mod}
 use Rattle.laws.specs.Numerals.{number_on}
 
--- sums of numbers that agree modulo m agree, and so do their tenfold
+-- sums of numbers that agree modulo m agree
 sums : (m a b x y : ℕ) → a % m ≡ x % m → b % m ≡ y % m → (a + b) % m ≡ (x + y) % m
 sums m a b x y h k = add-mod a b m ∙ ap₂ (λ (i j : ℕ). (i + j) % m) h k ∙ sym (add-mod x y m)
-
--- ten times a number, by doubling
-pub tenfold : (m n d two four eight ten r : ℕ) → two ≡ (n + n) % m → four ≡ (two + two) % m → eight ≡ (four + four) % m
-    → ten ≡ (eight + two) % m → r ≡ (ten + d) % m → r ≡ (n * 10 + d) % m
-tenfold m n d two four eight ten r h2 h4 h8 h10 hr =
-    let e2 : two % m ≡ (n + n) % m = ap (λ (i : ℕ). i % m) h2 ∙ mod-mod (n + n) m in
-    let e4 : four % m ≡ (n + n + (n + n)) % m = ap (λ (i : ℕ). i % m) h4 ∙ mod-mod (two + two) m ∙ sums m two two (n + n) (n + n) e2 e2 in
-    let e8 : eight % m ≡ (n + n + (n + n) + (n + n + (n + n))) % m =
-    ap (λ (i : ℕ). i % m) h8 ∙ mod-mod (four + four) m ∙ sums m four four (n + n + (n + n)) (n + n + (n + n)) e4 e4 in
-    let e10 : ten % m ≡ (n * 10) % m =
-    ap (λ (i : ℕ). i % m) h10 ∙ mod-mod (eight + two) m ∙ sums m eight two (n + n + (n + n) + (n + n + (n + n))) (n + n) e8 e2 ∙ ap (λ (i : ℕ). i % m) (omega arith) in
-    hr ∙ sums m ten d (n * 10) d e10 refl
 
 -- numbers that agree modulo m agree behind the same digits
 agree : (s : List ℕ) (m a b : ℕ) → a % m ≡ b % m → number_on true a s % m ≡ number_on true b s % m

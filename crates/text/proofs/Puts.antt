@@ -25,11 +25,6 @@ onward t u at out a o h = ap (λ (y : ℕ × List ℕ). puts u y.0 y.1) h ∙ jo
 pub then : (t u : List ℕ) (at : ℕ) (out : List ℕ) (a r : ℕ) (o x : List ℕ) → (a, o) ≡ puts t at out → (r, x) ≡ puts u a o → (r, x) ≡ puts (t ++ u) at out
 then t u at out a r o x h g = g ∙ onward t u at out a o h
 
--- a byte
-pub one : (out : List ℕ) (at byte : ℕ) → at < length out → (at + 1, set out at byte) ≡ puts (byte ∷ []) at out
-unfolding puts
-one out at byte h = rw (lt-ltb at (length out) h, add-one at)
-
 -- the next part of what is left of a text, and then the rest
 pub part-on : (t u : List ℕ) (at : ℕ) (out : List ℕ) (a : ℕ) (o : List ℕ) {left : List ℕ} {whole : ℕ × List ℕ} → (a, o) ≡ puts t at out → left ≡ t ++ u → puts left at out ≡ whole → puts u a o ≡ whole
 part-on t u at out a o h e g = onward t u at out a o h ∙ ap (λ (x : List ℕ). puts x at out) (sym e) ∙ g

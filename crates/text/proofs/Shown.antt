@@ -1,45 +1,10 @@
 -- Frames byte by byte. Assumes nothing.
-use Rattle.std.proofs.Common.{◌≡◌, ℕ, zero, suc, ◌+◌, ◌-◌, ◌<◌, ◌≤◌, false, eqb, List, [], ◌∷◌, length, get_or}
-use Rattle.std.proofs.Common.{take, drop, sym, refl, ap, ◌∙◌, ap₂, add-one, arith, drop_of_length-le, drop-cons, get_or-take, drop-drop, eq-eqb, ne_eqb, eqb-true}
-use Prim.Native.Char.{code}
-use lib.Seq.{drop-length}
+use Rattle.std.proofs.Common.{◌≡◌, ℕ, zero, suc, ◌+◌, ◌<◌, ◌≤◌, false, eqb, List, [], ◌∷◌, length, get_or, drop, sym, refl, ap, ◌∙◌, ap₂, add-one, drop_of_length-le, drop-cons, eqb-true}
 use Rattle.laws.specs.Text.{codes}
 use Rattle.laws.specs.Truth.{All, one_of}
 use Rattle.laws.proofs.Truths.{clash}
 use Rattle.laws.proofs.Passes.{on_test}
 use Rattle.text.specs.Frames.{end_meant, byte_meant, passed, meant_on, meant_by, shown_byte, shown_as, ShownMeans}
-use Rattle.text.specs.Hex.{hex_says}
-
--- the byte that begins a text, by the three characters that it can be written in
-pub escaped : (t : List ℕ) (b high low r : ℕ) → b ≡ get_or (take 3 t) 0 0 → high ≡ get_or (take 3 t) 1 0 → low ≡ get_or (take 3 t) 2 0 → b ≡ code "=" → r ≡ hex_says high low → r ≡ byte_meant t
-unfolding byte_meant
-escaped t b high low r p q s h e =
-    let p' : get_or t 0 0 ≡ b = sym (get_or-take 3 t 0 0 (omega arith)) ∙ sym p in
-    let q' : get_or t 1 0 ≡ high = sym (get_or-take 3 t 1 0 (omega arith)) ∙ sym q in
-    let s' : get_or t 2 0 ≡ low = sym (get_or-take 3 t 2 0 (omega arith)) ∙ sym s in
-    rw (p', q', s', eq-eqb b (code "=") h) e
-
-pub plain : (t : List ℕ) (b r : ℕ) → b ≡ get_or (take 3 t) 0 0 → (b ≡ code "=" → ⊥) → r ≡ end_meant b → r ≡ byte_meant t
-unfolding byte_meant
-plain t b r p h e =
-    let p' : get_or t 0 0 ≡ b = sym (get_or-take 3 t 0 0 (omega arith)) ∙ sym p in
-    rw (p', ne_eqb b (code "=") h) e
-
--- where the next byte begins
-pub next-plain : (s : List ℕ) (at : ℕ) → (get_or s at 0 ≡ code "=" → ⊥) → drop (at + 1) s ≡ drop (passed (get_or s at 0)) (drop (at + 1) s)
-unfolding passed
-next-plain s at h = rw (ne_eqb (get_or s at 0) (code "=") h)
-
-pub next_last : (s : List ℕ) (at : ℕ) → get_or s at 0 ≡ code "=" → length s - at < 3 → drop (length s) s ≡ drop (passed (get_or s at 0)) (drop (at + 1) s)
-unfolding passed
-next_last s at h l =
-    rw (eq-eqb (get_or s at 0) (code "=") h, drop-drop 2 (at + 1) s, drop-length s, drop_of_length-le s {i = at + 1 + 2} (omega arith))
-
-pub next-hex : (s : List ℕ) (at : ℕ) → get_or s at 0 ≡ code "=" → drop (at + 3) s ≡ drop (passed (get_or s at 0)) (drop (at + 1) s)
-unfolding passed
-next-hex s at h =
-    let e : at + 3 ≡ at + 1 + 2 = omega arith in
-    rw (eq-eqb (get_or s at 0) (code "=") h, drop-drop 2 (at + 1) s, e)
 
 -- the bytes behind so many characters are those of the rest
 behind : (k : ℕ) (t : List ℕ) → meant_on k t ≡ meant_on 0 (drop k t)
