@@ -14,7 +14,7 @@ ROOT = sys.argv[1] if len(sys.argv) > 1 else "."
 WORD = re.compile(r"[^\W\d][\w']*(?:-[^\W_][\w']*)*")
 CAMEL = re.compile(r"[a-z][a-z0-9']*[A-Z]")
 # what stands in rows and samples, and is no name
-ROWS = re.compile(r"[a-z]\d?[A-Z]+(\d+|[a-z]{0,2})$")
+ROWS = re.compile(r"[a-z]\d?[A-Z]{2,}(\d+|[a-z]{0,2})$")
 STRING = re.compile(r'"(?:[^"\\\n]|\\.)*"')
 TYPES = {"crates/protocol/proofs/Protocol.antt": {"onLine": "OnLine"}}
 

@@ -19,7 +19,7 @@ use Rattle.desk.specs.Fitting as u
 use Rattle.desk.specs.Replying as q
 use Rattle.desk.specs.Waiting as k
 use Rattle.master.specs.Rules.{poll_of, is_failure, answers_to, permitted_answer}
-use Rattle.master.specs.Times.{reduces, operation_fits, t0Of, operation_after}
+use Rattle.master.specs.Times.{reduces, operation_fits, t0_of, operation_after}
 use Rattle.master.specs.Answering.{answered_by, judge_of}
 use Rattle.master.specs.State.{sendable, fits_free, in_ranges, call_fault, start_of}
 use Rattle.master.specs.Sending.{sending_of, failed_of, offer_fault, offer_of, polling_of, waiting_of, tick_of}
@@ -36,7 +36,7 @@ computed : Runs × AllowedRuns × OutsideRuns × NotAllowed × AtBounds × PastB
 unfolding numeral_on number_on left_of in_set total checksum_of check_text line_of forms on_line look_in type_row form_of data_type slots_in count_of slots_of
     width_in width_of record_of lead_of is_decimal permits ruled permits_number permits_record text_of narrow value_of number_width permitted_from number_fits
     permitted permits_value permits_values count_text summed_of field_of frame_of f.body_of frame_checks data_of outside wrong_letter bad_value values_in
-    misshapen field_checks record_in checks reading_of telegram_of run_out operation_fits sendable fits_free in_ranges call_fault start_of t0Of reduces operation_after poll_of is_failure answers_to
+    misshapen field_checks record_in checks reading_of telegram_of run_out operation_fits sendable fits_free in_ranges call_fault start_of t0_of reduces operation_after poll_of is_failure answers_to
     permitted_answer answered_by judge_of sent_of sending_of failed_of offer_fault offer_of polling_of waiting_of tick_of hear_of u.may_reply u.key_fits k.kept_fits
     u.wanted_fits s.numbers_fit s.records_fit s.in_ranges s.start_of p.loses_line p.noted_of p.tick_of p.record_fault p.queue_of p.set_of p.key_fault p.key_of c.clear_queue_of
     r.repeats r.matter_in r.good_frame r.bad_frame r.ruling_in q.key_on q.polled_of h.faulted_of h.repeated_of h.handled_of h.heard_of h.hear_of

@@ -9,7 +9,7 @@ use Rattle.records.specs.Answers.{Fault, good, fails}
 use Rattle.writing.specs.Writing.{telegram_of, sent_of}
 use Rattle.clock.specs.Clock.{run_out}
 use Rattle.master.specs.Rules.{poll_of}
-use Rattle.master.specs.Times.{t0Of}
+use Rattle.master.specs.Times.{t0_of}
 use Rattle.master.specs.declared.state.Master.{Master}
 use Rattle.master.specs.Answers.{Which, offered, again, poll, Ground, silence, Told, refused, nothing, sent, given_up}
 use Rattle.master.specs.State.{is_free, call_fault, after_sending, with_line, given_up_state}
@@ -25,7 +25,7 @@ unless_refused (fails x) m out behind = (m, (refused x, out))
 
 -- T0: 20,000 on line 1 (001 section 6.9), 5,000 on line 2 (section 7.3); on line 3 10,000, and 20,000 from an A to t with X to one with another value (section 8.6)
 abbrev pub t0_limit : Master → ℕ
-t0_limit m = t0Of m.line m.operation
+t0_limit m = t0_of m.line m.operation
 
 -- T2 is 2,000
 abbrev pub t2_limit : ℕ

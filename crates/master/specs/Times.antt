@@ -15,8 +15,8 @@ unfoldable pub operation_fits : ℕ → Bool → Bool
 operation_fits line operation = implies operation (reduces line)
 
 -- T0: 20,000 on line 1, 5,000 on line 2; on line 3 10,000, and 20,000 in position Operation
-unfoldable pub t0Of : ℕ → Bool → ℕ
-t0Of line operation = cond operation (line_of line).t0 (line_of line).reduced
+unfoldable pub t0_of : ℕ → Bool → ℕ
+t0_of line operation = cond operation (line_of line).t0 (line_of line).reduced
 
 -- an A that answers t tells the key position: X is Operation, any other value is not (001 sections 8.6, 8.8); no other answer tells it.
 -- The line, the type that was sent, the permitted answer, and the flag before

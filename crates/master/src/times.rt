@@ -1,6 +1,6 @@
 // T0's limit, and what an answer makes of it (rules K4, M18).
 ghost use Rattle.std.specs.Prelude.{◌≡◌};
-ghost use Rattle.master.specs.Times.{reduces, operation_fits, t0Of, operation_after};
+ghost use Rattle.master.specs.Times.{reduces, operation_fits, t0_of, operation_after};
 
 use forms::lines::line_of;
 use records::records::{Record, type_of, values_of};
@@ -23,9 +23,9 @@ pub(crate) fn operation_fits(line: u8, operation: bool) -> bool
 }
 
 // T0's limit on a line, by whether the last A that answered t said Operation.
-#[tactic(auto, unfolding(crate::specs::Times::t0Of))]
+#[tactic(auto, unfolding(crate::specs::Times::t0_of))]
 pub(crate) fn t0_of(line: u8, operation: bool) -> u32
-    ensures { result ≡ t0Of line operation }
+    ensures { result ≡ t0_of line operation }
 {
     let row = line_of(line);
     if operation { row.t0 } else { row.reduced }

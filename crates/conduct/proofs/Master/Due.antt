@@ -15,7 +15,7 @@ use Rattle.records.specs.Refusals.{no}
 use Rattle.clock.specs.Due.{When, after, never, time_left}
 use Rattle.clock.specs.Due as w
 use Rattle.master.specs.Rules.{poll_of}
-use Rattle.master.specs.Times.{t0Of}
+use Rattle.master.specs.Times.{t0_of}
 use Rattle.master.specs.Answers.{Told, nothing, silence, poll}
 use Rattle.master.specs.Answers as t
 use Rattle.master.specs.State.{is_free, in_ranges, call_fault}
@@ -55,16 +55,16 @@ always-due m at e = go (due_of m at) (asked m at) e
     go x (bad h) e = clashes (cc)
 
 -- T0 is at most 20 seconds on each line
-t0-most : (operation : Bool) (line : ℕ) → leb (t0Of line operation) 20000 ≡ true → t0Of line operation < 2 ^ 32
-t0-most operation line h = omega (arith, leb-true (t0Of line operation) 20000 h)
+t0-most : (operation : Bool) (line : ℕ) → leb (t0_of line operation) 20000 ≡ true → t0_of line operation < 2 ^ 32
+t0-most operation line h = omega (arith, leb-true (t0_of line operation) 20000 h)
 
 t0-under : (m : Master) → in_ranges m ≡ true → t0_limit m < 2 ^ 32
-unfolding t0Of line_of
+unfolding t0_of line_of
 t0-under m h = go m.operation
   where
-    go : (operation : Bool) → t0Of m.line operation < 2 ^ 32
-    go true = t0-most true m.line (each_line (λ (line : ℕ). leb (t0Of line true) 20000) refl m.line (lined m h))
-    go false = t0-most false m.line (each_line (λ (line : ℕ). leb (t0Of line false) 20000) refl m.line (lined m h))
+    go : (operation : Bool) → t0_of m.line operation < 2 ^ 32
+    go true = t0-most true m.line (each_line (λ (line : ℕ). leb (t0_of line true) 20000) refl m.line (lined m h))
+    go false = t0-most false m.line (each_line (λ (line : ℕ). leb (t0_of line false) 20000) refl m.line (lined m h))
 
 module _ (m : Master) (at : ℕ) (r : Read m at) (h : in_ranges m ≡ true) (out : List ℕ) (room : longest ≤ length out) where
   module _ (f : is_free m ≡ true) where

@@ -13,7 +13,7 @@ use Rattle.forms.specs.Lines.{is_line, line_of}
 use Rattle.records.specs.Records.{type_of, values_of}
 use Rattle.records.specs.declared.records.Record.{Record}
 use Rattle.master.specs.Rules.{poll_of}
-use Rattle.master.specs.Times.{reduces, t0Of, operation_after}
+use Rattle.master.specs.Times.{reduces, t0_of, operation_after}
 use Rattle.master.specs.declared.state.Master.{Master}
 use Rattle.master.specs.Answers.{Which, Told}
 use Rattle.master.specs.State.{is_free, in_ranges, started}
@@ -97,7 +97,7 @@ behind line kind key m h i (call ∷ calls) =
     (r.0, r.1 ∙ ap (flag_of line) (sym (last-of-two key (position_in kind told) (positions line (sent_type line kind call told) (events_of (after m call).0 calls)))))
 
 -- from the start no position was told, and a position that was never told is not X
-from_start : (line at : ℕ) → is_line line ≡ true → (calls : List Call) → t0_limit (run (started line at) calls) ≡ t0Of line (flag_of line (last_position line at calls))
+from_start : (line at : ℕ) → is_line line ≡ true → (calls : List Call) → t0_limit (run (started line at) calls) ≡ t0_of line (flag_of line (last_position line at calls))
 from_start line at h calls =
     let r = behind line 0 0 (started line at) (start-ranged line at h) (record { lined = refl; sent = λ q. clash (sym q); flag = never (reduces line) }) calls in
     rw (r.0, r.1)
@@ -110,7 +110,7 @@ from_start line at h calls =
 abbrev agrees : TimeRow → Bool
 agrees row =
     both (is_line row.line)
-    (both (eqb (t0Of row.line (both (reduces row.line) true)) row.with_x) (eqb (t0Of row.line (both (reduces row.line) false)) row.t0))
+    (both (eqb (t0_of row.line (both (reduces row.line) true)) row.with_x) (eqb (t0_of row.line (both (reduces row.line) false)) row.t0))
 
 -- behind any calls the limit is that of the row
 abbrev ByRow : TimeRow → Type 0
@@ -122,7 +122,7 @@ by_row row h at calls =
     ∙ go (eqb (last_position row.line at calls) (code "X")) (both_right (is_line row.line) _ h)
   where
     limit : Bool → ℕ
-    limit b = t0Of row.line (both (reduces row.line) b)
+    limit b = t0_of row.line (both (reduces row.line) b)
 
     go : (b : Bool) → both (eqb (limit true) row.with_x) (eqb (limit false) row.t0) ≡ true → limit b ≡ cond b row.with_x row.t0
     go true k = eqb-true _ _ (both_left (eqb (limit true) row.with_x) _ k)
@@ -133,7 +133,7 @@ by_rows [] h = tt
 by_rows (row ∷ rows) h = (by_row row (both_left (agrees row) _ h), by_rows rows (both_right (agrees row) _ h))
 
 pub limit-told : LimitTold
-unfolding reduces t0Of line_of
+unfolding reduces t0_of line_of
 limit-told = by_rows paper_times refl
 
 -- one limit, whatever the test says
