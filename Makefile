@@ -8,7 +8,7 @@
 # make try: runs the two C examples against each other over pseudo-terminals.
 # make check: the gate.
 # make soak FACTOR=20: compares the library with the second version, 20 times as much as the gate does.
-# make emulated CHUNKS=3: the archive for x86-64 tested in an emulator, on a machine that is not x86-64; it installs Debian packages.
+# make emulated CHUNKS=3: an archive that was built on x86-64 tested in an emulator, on another machine; it installs Debian packages.
 # make bench: measures how fast the library is.
 # make stack: measures the stack that each call of the library needs.
 # make help: these lines.
