@@ -4,7 +4,6 @@ use mathlib.Core.List.{List}
 use Prim.Native.Nat.{ℕ}
 use lib.ListN.{length}
 use borrow.Author.Tests.{eq-eqb}
-use Rattle.records.specs.Answers.{Outcome, Write}
 use Rattle.master.specs.declared.state.Master.{Master}
 use Rattle.master.specs.Answers as m
 use Rattle.master.specs.Sending.{Behind}
@@ -13,8 +12,6 @@ use Rattle.blocks.specs.Record.{record_length}
 use Rattle.blocks.specs.Masters as ms
 use Rattle.in656.specs.declared.results.result.In656Result.{In656Result}
 use Rattle.in656.specs.Results.Result.{Call}
-use Rattle.in656.specs.Results.Telegrams.{write_result}
-use Rattle.in656.specs.Telegrams.{wrote}
 use Rattle.in656.specs.Masters as master
 use Rattle.in656.specs.Results.Frames.{desk_frame, master_frame}
 use Rattle.desk.specs.declared.state.Desk.{Desk}
@@ -22,9 +19,6 @@ use Rattle.desk.specs.Heard as d
 use Rattle.desk.specs.Hearing as dh
 use Rattle.blocks.specs.Desks as ds
 use Rattle.in656.specs.Desks as desk
-
-pub written : (r : In656Result) (o : Outcome) (out : List ℕ) (w : Write) → r ≡ write_result o → (o, out) ≡ w → (r, out) ≡ wrote w
-written r o out w p q = rw (p, ← q)
 
 -- a call of the master that may send
 pub master-sends : (r : In656Result) (s o b : List ℕ) (x : Master) (told : m.Told) (h : Behind)
@@ -39,10 +33,6 @@ pub master-hears : (b : List ℕ) (time : ℕ) (frame block out : List ℕ) (x y
 unfolding master.master_hear master.heard master.stepped
 master-hears b time frame block out x y told o s k r f l e q p g t =
     rw (eq-eqb _ _ e, ← l, ← q, g, t) (ap (λ (w : Call). (master_frame told x.line frame w.0, (w.1, (master.answer_block told block, o)))) p)
-
--- a call that leaves a lent block as it is
-pub leaves : (r : In656Result) (s block : List ℕ) (c : Call) → (r, s) ≡ c → (r, (s, block)) ≡ desk.besides c block
-leaves r s block c p = ap (λ (w : Call). desk.besides w block) p
 
 -- the desk's hearing
 pub desk-hears : (b : List ℕ) (time : ℕ) (frame block out : List ℕ) (x y : Desk) (told : d.Told) (o s k : List ℕ) (r f : In656Result)
