@@ -38,7 +38,7 @@ number = $(shell sed -n 's/^.define IN656_VERSION_$(1) \([0-9]*\)u$$/\1/p' inclu
 VERSION := $(call number,MAJOR).$(call number,MINOR).$(call number,PATCH)
 SONAME := libin656.so.$(call number,MAJOR)
 
-SOURCES := $(shell find crates -name '*.rt' -o -name '*.antt') crates.txt
+SOURCES := $(shell find crates -name out -prune -o \( -name '*.rt' -o -name '*.antt' \) -print) crates.txt
 MACHINE := $(shell uname -m)
 # in656.pc for a prefix, a folder of libraries, one of headers, and what the linker is told so that the program finds the shared library there
 PC = sed -e 's|@PREFIX@|$(1)|' -e 's|@LIBDIR@|$(2)|' -e 's|@INCLUDEDIR@|$(3)|' -e 's|@RPATH@|$(4)|' -e 's|@VERSION@|$(VERSION)|' include/in656.pc.in
@@ -47,10 +47,9 @@ RPATH = -Wl$(comma)-rpath$(comma)$${libdir}
 # a folder by the prefix, where it is below it
 under = $(patsubst $(PREFIX)/%,$${prefix}/%,$(1))
 
-# where the build leaves what runs on this machine (tools/kit)
-OWN := $(if $(filter x86_64,$(MACHINE)),,target/native)
-ARCHIVE := $(or $(OWN),target/staticlib)/libin656.a
-PROGRAMS := $(or $(OWN),target/bin)
+# where the build leaves what it makes (tools/build)
+ARCHIVE := target/staticlib/libin656.a
+PROGRAMS := target/bin
 HOST := cargo run --offline --quiet --manifest-path host/Cargo.toml
 
 # $(call need,COMMAND): stops with one line where the machine lacks a command
@@ -161,4 +160,4 @@ help:
 	@sed -n 's/^# \(make.*\)/\1/p' Makefile
 
 clean:
-	rm -rf $(DIST) target host/target
+	rm -rf $(DIST) target host/target crates/*/out

@@ -27,8 +27,8 @@ def listed():
             groups[heading.group(1)] = crates = []
         name, colon, rest = line.split('#')[0].partition(':')
         if colon:
-            crates.append(name.strip())
-            uses[name.strip()] = rest.split()
+            crates.append(name.split()[0])
+            uses[name.split()[0]] = rest.split()
     return groups, {name: [u for u in used if u in uses] for name, used in uses.items()}
 
 
@@ -50,7 +50,7 @@ def modules(crate):
     root, ending, using = f'crates/{crate}/src', 'rt', r'\buse crate::((?:[a-z]\w*::)+)'
     found = [f for f in glob.glob(f'{root}/**/*.rt', recursive=True) if os.path.basename(f) not in ('lib.rt', 'main.rt')]
     if not found and not os.path.exists(f'{root}/main.rt'):
-        root, ending, using = f'crates/{crate}/specs', 'antt', rf'Rattle·{crate}·specs\.specs\.((?:[A-Z]\w*\.)+)'
+        root, ending, using = f'crates/{crate}/specs', 'antt', rf'Rattle\.{crate}\.specs\.((?:[A-Z]\w*\.)+)'
         found = [f for f in glob.glob(f'{root}/**/*.antt', recursive=True) if os.path.basename(f) != 'Lib.antt']
     apart = '::' if ending == 'rt' else '.'
     names = {os.path.relpath(f, root)[: -len(ending) - 1].replace('/', apart): f for f in sorted(found)}

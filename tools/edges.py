@@ -4,15 +4,13 @@
     tools/edges.py            for each crate: what is listed and not used, what is used and not listed, or listed below it; exit 1 where there is any
     tools/edges.py --write    rewrites crates.txt to what is used; comments and order stay
 
-A crate uses another where its src/ has a path `X::`, where its src/, specs/ or proofs/ name `Rattle·X`, or where a struct or an enum
+A crate uses another where its src/ has a path `X::`, where its src/, specs/ or proofs/ name `Rattle.X`, or where a struct or an enum
 of X is part of a type that its code sees through another crate (the prover cannot name it otherwise). No more is needed: what is
 only used by a crate that is used is found without being listed.
 """
 import glob
 import re
 import sys
-
-KIT = ('bytes', 'io', 'os', 'check', 'libc')
 
 
 def listed():
@@ -21,7 +19,7 @@ def listed():
     for line in open('crates.txt', encoding='utf-8'):
         name, colon, rest = line.split('#')[0].partition(':')
         if colon:
-            deps[name.strip()] = rest.split()
+            deps[name.split()[0]] = rest.split()
     return deps
 
 
@@ -35,7 +33,7 @@ def named(crate, names):
     """The crates that this one names."""
     code = '\n'.join(texts(crate, 'src/**/*.rt'))
     rest = '\n'.join(t for part in ('specs', 'proofs') for t in texts(crate, part + '/**/*.antt'))
-    found = set(re.findall(r'(?<![\w:])([a-z]\w*)::', code)) | set(re.findall(r'Rattle·([a-z]\w*)(?=[.·])', code + rest))
+    found = set(re.findall(r'(?<![\w:])([a-z]\w*)::', code)) | set(re.findall(r'\bRattle\.([a-z]\w*)(?=\.)', code + rest))
     return {n for n in found if n in names and n != crate}
 
 
@@ -55,7 +53,7 @@ def types(crates):
     imports = []
     for crate in crates:
         for text in texts(crate, 'src/**/*.rt'):
-            known = dict((n, c) for c, n in re.findall(r'\buse (\w+)::(?:\w+::)*(\w+);', text) if c in crates)
+            known = {n: c for c, names in re.findall(r'\buse (\w+)::(?:\w+::)*(\w+|\{[^}]*\});', text) if c in crates for n in re.findall(r'\w+', names)}
 
             def of(words):
                 return {(known.get(t, crate), t) for t in re.findall(r'\b[A-Z]\w*', words)}
@@ -83,7 +81,7 @@ def reached(first, holds):
 
 def main():
     deps = listed()
-    order = list(deps) + list(KIT)
+    order = list(deps)
     holds, sees = types(deps)
     used = {c: (named(c, set(order)) | reached(sees[c], holds)) - {c} for c in deps}
     differ = 0
@@ -104,7 +102,7 @@ def main():
             name, colon, rest = line.split('#')[0].partition(':')
             if colon:
                 note = line[line.index('#'):].rstrip() if '#' in line else ''
-                line = ' '.join([name.strip() + ':'] + sorted(used[name.strip()], key=order.index) + [note] * bool(note)) + '\n'
+                line = ' '.join([name.strip() + ':'] + sorted(used[name.split()[0]], key=order.index) + [note] * bool(note)) + '\n'
             lines.append(line)
         open('crates.txt', 'w', encoding='utf-8').writelines(lines)
     elif differ:

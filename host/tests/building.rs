@@ -12,29 +12,31 @@ use std::time::Duration;
 
 const KIT: &str = "kit of the test";
 
-/// A stand-in for rt: it takes the crates in order with a pause in each, writes what rt writes, and
-/// fails at the crate in FAILS.
+/// A stand-in for rt: in a crate's folder it takes the crates in order with a pause in each, says what
+/// rt says, and fails at the crate in FAILS.
 const RT: &str = r#"#!/bin/sh
 case $1 in
 version) echo "$KIT"; exit ;;
-check) echo begins >>turns ;;
-staticlib) echo "an archive of $2 by $RATTLE_HOME"; exit ;;
 esac
-mkdir -p target/log
+echo begins >>../../turns
 for crate in one two three; do
-  echo "rt: a line of the prover on $crate" >target/log/$crate.out
+  echo "rt: chose --jobs 2 for $crate" >&2
+  echo "a line of the prover on $crate" >&2
   sleep PAUSE &
-  echo $! >child
+  echo $! >../../child
   wait
   if [ "$crate" = "$FAILS" ]; then
-    echo "rt: $crate NOT PROVED (exit 1, 1 s)" >>target/log/$crate.out
-    cat target/log/$crate.out
+    echo "fn $crate::main: not proved" >&2
     exit 1
   fi
-  echo "rt: $crate proved (1 s)" >>target/log/$crate.out
-  cat target/log/$crate.out
 done
-echo ends >>turns
+echo ends >>../../turns
+mkdir -p out
+name=${PWD##*/}
+case $1 in
+run) echo "the program $name" >out/$name ;;
+lib) echo "the archive $name" >out/lib$name.a ;;
+esac
 "#;
 
 /// A pause of the stand-in, in seconds: none to speak of, or one in which a build on a busy machine is
@@ -46,15 +48,19 @@ const LONG: &str = "2";
 fn made(name: &str, pause: &str) -> PathBuf {
     let folder = Path::new(env!("CARGO_TARGET_TMPDIR")).join(name);
     let _ = fs::remove_dir_all(&folder);
-    fs::create_dir_all(folder.join("tools")).expect("a folder");
-    fs::create_dir_all(folder.join("bin")).expect("a folder");
+    for part in ["tools", "bin", "crates/one", "crates/two", "crates/three"] {
+        fs::create_dir_all(folder.join(part)).expect("a folder");
+    }
     for tool in ["tools/build", "tools/input"] {
         copied(tool, &folder);
     }
     let kits = format!("{KIT}\nan older kit\n");
     fs::write(folder.join("tools/kit-version"), kits).expect("a file");
-    program(&folder.join("tools/kit"), "#!/bin/sh\necho \"$1\"\n");
-    fs::write(folder.join("crates.txt"), "one:\ntwo: one io\nthree: two\n").expect("a file");
+    fs::write(
+        folder.join("crates.txt"),
+        "one:\ntwo: one\nthree staticlib: two\n",
+    )
+    .expect("a file");
     program(&folder.join("bin/rt"), &RT.replace("PAUSE", pause));
     folder
 }
@@ -106,12 +112,16 @@ fn one_line_a_crate() {
     assert!(output.status.success());
     let log = fs::read_to_string(folder.join("target/build.log")).expect("the log");
     assert!(log.contains("a line of the prover on two"), "{log}");
+    let made = |path: &str| fs::read_to_string(folder.join("target").join(path));
+    assert_eq!(
+        made("bin/three").expect("it is made"),
+        "the program three\n"
+    );
     let output = build(&folder, &["archive", "three"], KIT, "");
     assert!(text(&output.stderr).contains("proving 3 of 3: three\n"));
     assert!(output.status.success());
-    let log = fs::read_to_string(folder.join("target/build.log")).expect("the log");
-    let kit = format!("an archive of three by {}/target/kit", folder.display());
-    assert!(log.contains(&kit), "{log}");
+    let archive = made("staticlib/libthree.a").expect("it is made");
+    assert_eq!(archive, "the archive three\n");
 }
 
 /// The prover's lines are shown of the crate that fails, and of no other.
@@ -120,7 +130,7 @@ fn a_crate_that_fails() {
     let folder = made("a build that fails", SHORT);
     let output = build(&folder, &["check", "three"], KIT, "two");
     let said = text(&output.stderr);
-    assert!(said.contains("a line of the prover on two\nrt: two NOT PROVED"));
+    assert!(said.contains("a line of the prover on two\nfn two::main: not proved"));
     assert!(!said.contains("on one"), "{said}");
     assert_eq!(output.status.code(), Some(1));
 }

@@ -28,8 +28,13 @@ fn listed() -> Parts {
             .collect()
     };
     rows.iter()
-        .map(|(name, list)| (name.trim().to_string(), used(list)))
+        .map(|(name, list)| (named(name), used(list)))
         .collect()
+}
+
+/// A crate's name where crates.txt lists it: a word on its kind may stand behind.
+fn named(listed: &str) -> String {
+    listed.split_whitespace().next().unwrap_or("").to_string()
 }
 
 /// Whether a crate uses another, perhaps through others.
@@ -37,12 +42,14 @@ fn reaches(parts: &Parts, from: &str, to: &str) -> bool {
     parts[from].iter().any(|d| d == to || reaches(parts, d, to))
 }
 
-/// The files of Rattle and antt under a folder.
+/// The files of Rattle and antt under a folder, but for what rt makes.
 fn sources(folder: &Path, found: &mut Vec<PathBuf>) {
     for entry in fs::read_dir(folder).expect("a folder") {
         let path = entry.expect("an entry").path();
         if path.is_dir() {
-            sources(&path, found);
+            if path.file_name().is_some_and(|name| name != "out") {
+                sources(&path, found);
+            }
         } else if path.extension().is_some_and(|e| e == "rt" || e == "antt") {
             found.push(path);
         }
@@ -70,7 +77,7 @@ fn groups() -> Vec<(String, BTreeSet<String>)> {
         if let Some(heading) = line.strip_prefix("# ").filter(|h| !h.ends_with('.')) {
             found.push((heading.to_string(), BTreeSet::new()));
         } else if let (Some((name, _)), Some(last)) = (line.split_once(':'), found.last_mut()) {
-            last.1.insert(name.to_string());
+            last.1.insert(named(name));
         }
     }
     found
@@ -184,7 +191,7 @@ fn each_path_that_a_page_cites_is_there() {
     }
 }
 
-/// The names of `use` lines that nothing else in a file has. `_++_` stands as `++` between two things; a `pub use` passes
+/// The names of `use` lines that nothing else in a file has. `◌++◌` stands as `++` between two things; a `pub use` passes
 /// its names on.
 fn unused(text: &str) -> Vec<String> {
     let code = |line: &str| line.split("--").next().unwrap_or("").to_string();
@@ -201,14 +208,18 @@ fn unused(text: &str) -> Vec<String> {
     });
     brought
         .filter_map(|name| name.rsplit(" as ").next().map(str::trim))
-        .filter(|name| !words.contains(name) && !words.contains(name.trim_matches('_')))
+        .filter(|name| !words.contains(name))
+        .filter(|name| {
+            let mut parts = name.split('◌').filter(|part| !part.is_empty());
+            !name.contains('◌') || !parts.all(|part| words.contains(part))
+        })
         .map(String::from)
         .collect()
 }
 
 #[test]
 fn no_name_is_brought_in_for_nothing() {
-    let some = "use a.{_+_, b, c as d}\nuse e.{f}\nuse g as h\nuse i as j\nd : b + j.b -- f\n";
+    let some = "use a.{◌+◌, b, c as d}\nuse e.{f}\nuse g as h\nuse i as j\nd : b + j.b -- f\n";
     assert_eq!(unused(some), ["f", "h"]);
     let mut found = Vec::new();
     sources(&repository("crates"), &mut found);

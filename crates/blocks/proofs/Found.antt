@@ -36,12 +36,12 @@ pad-all P z (suc n) [] p = (z, pad-all P z n [] tt)
 pad-all P z (suc n) (x ∷ xs) (q, p) = (q, pad-all P z n xs p)
 
 -- the bytes of the values
-values_length : (rec : Record) → length (joined four_bytes (values_of rec)) ≡ values_length
-values_length rec = omega (arith, joined_length four_bytes 4 four-length (values_of rec), pad-length 10 (fields_of rec))
+its-values-length : (rec : Record) → length (joined four_bytes (values_of rec)) ≡ values_length
+its-values-length rec = omega (arith, joined_length four_bytes 4 four-length (values_of rec), pad-length 10 (fields_of rec))
 
 pub record-length : (rec : Record) → length (record_bytes rec) ≡ record_length
 unfolding record_bytes
-record-length rec = let h = values_length rec in simp length-append (omega arith)
+record-length rec = let h = its-values-length rec in simp length-append (omega arith)
 
 -- what is read where a test fails, and where none does
 pub other_length : (b : List ℕ) → (length b ≡ record_length → ⊥) → refused (no 12 0) ≡ record_in b
@@ -63,7 +63,7 @@ pub made_again : (rec : Record) → Narrow rec → record_at (record_bytes rec) 
 unfolding record_at record_bytes
 made_again rec h =
     rw (
-      take_at (joined four_bytes (values_of rec)) (replicate text_length 0) values_length (values_length rec),
+      take_at (joined four_bytes (values_of rec)) (replicate text_length 0) values_length (its-values-length rec),
       rw (pad-length 10 (fields_of rec)) at
           (each_back 4 four_said four_bytes four-length (λ (n : ℕ). n < 2 ^ 32) four-back (values_of rec) (pad-all (λ (n : ℕ). n < 2 ^ 32) (lit< tt) 10 (fields_of rec) h)),
     )

@@ -60,6 +60,7 @@ fn put_wanted(out: &mut [u8], at: usize, wanted: Wanted) -> usize
 }
 
 // The record set for r, where one is set.
+#[tactic(auto, unfolding(crate::specs::Desks::wanted_at))]
 fn wanted_at(set: u8, block: &[u8]) -> Wanted
     ensures { result ≡ wanted_at set block.now }
 {
@@ -146,6 +147,7 @@ fn telegram_in(s: &[u8]) -> [u8; LONGEST]
 }
 
 // The desk that a block's bytes make.
+#[tactic(auto, unfolding(crate::specs::Desks::desk_at))]
 fn desk_at(block: &[u8]) -> Desk
     ensures { result ≡ desk_at block.now }
 {

@@ -36,6 +36,7 @@ pub fn save(g: Gatherer, block: &mut [u8])
 }
 
 // Whether a block has its length and begins with the mark.
+#[tactic(auto, unfolding(crate::specs::Gatherers::started))]
 fn is_started(block: &[u8]) -> bool
     ensures { result ≡ started block.now }
 {
@@ -55,6 +56,7 @@ fn is_started(block: &[u8]) -> bool
 }
 
 // The number of bytes gathered; 66, which no gatherer in its ranges has, where the block was never started.
+#[tactic(auto, unfolding(crate::specs::Gatherers::count_in))]
 fn count_in(block: &[u8]) -> usize
     ensures { result ≡ count_in block.now }
 {

@@ -31,6 +31,7 @@ fn put_master(out: &mut [u8], at: usize, m: Master) -> usize
 }
 
 // The master that a block's bytes make.
+#[tactic(auto, unfolding(crate::specs::Masters::master_at))]
 fn master_at(block: &[u8]) -> Master
     ensures { result ≡ master_at block.now }
 {

@@ -40,6 +40,7 @@ pub fn put_block(out: &mut [u8], at: usize, rec: Record) -> usize
 }
 
 // The record that a block's type and values make.
+#[tactic(auto, unfolding(crate::specs::Record::record_at))]
 pub fn record_at(block: &[u8]) -> Record
     ensures { result ≡ record_at block.now }
 {

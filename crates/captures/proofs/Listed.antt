@@ -1,5 +1,6 @@
 -- One turn of the listing: a line is put, has no room, or none is left. Assumes nothing.
-use Rattle.std.proofs.Common.{◌≡◌, ℕ, ◌+◌, ◌-◌, ◌<◌, ◌≤◌, Bool, true, false, cond, leb, List, [], ◌++◌, length, drop, sym, refl, ap, ◌∙◌, append-nil, add-zero, arith, length-append, length-drop, take-append-drop, drop_of_length-le, take_all, drop-drop}
+use Rattle.std.proofs.Common.{◌≡◌, ℕ, ◌+◌, ◌-◌, ◌<◌, ◌≤◌, Bool, true, false, cond, leb, List, [], ◌++◌}
+use Rattle.std.proofs.Common.{length, drop, sym, refl, ap, ◌∙◌, append-nil, add-zero, arith, length-append, length-drop, take-append-drop, drop_of_length-le, take_all, drop-drop}
 use borrow.Rule.Slice.PartMut.{put_mid, mid_of}
 use Rattle.records.specs.Refusals.{no}
 use Rattle.records.specs.Answers.{Outcome, written, refused, answer_of, outcome_of, Write}

@@ -27,40 +27,40 @@ fn expected(row: &[u8]) -> &[u8] {
 }
 
 // Writes the first n bytes of an output.
-fn say(out: &[u8], n: usize) {
-    write_out(out, n, b"cases: writing");
+fn say(rt: HostRuntime, out: &[u8], n: usize) {
+    write_out(rt, out, n, b"cases: writing");
 }
 
 // Says a row with what came, and counts it.
-fn told(row: &[u8], came: &[u8], tally: Tally, out: &mut [u8]) -> Tally {
+fn told(rt: HostRuntime, row: &[u8], came: &[u8], tally: Tally, out: &mut [u8]) -> Tally {
     let n = put_row(out, 0, field(row, b'|', 0), expected(row), came);
-    say(out, n);
+    say(rt, out, n);
     tally.counted(expected(row), came)
 }
 
-fn one(row: &[u8], tally: Tally, out: &mut [u8]) -> Tally {
+fn one(rt: HostRuntime, row: &[u8], tally: Tally, out: &mut [u8]) -> Tally {
     let mut came = [0u8; 128];
     let n = runs::put_came(row, &mut came);
-    told(row, part(&came, 0, n), tally, out)
+    told(rt, row, part(&came, 0, n), tally, out)
 }
 
-fn all(text: &[u8], out: &mut [u8]) -> Tally {
+fn all(rt: HostRuntime, text: &[u8], out: &mut [u8]) -> Tally {
     let mut tally = Tally::start();
     for k in 0..65536usize {
         let row = field(text, b'\n', k);
         if row.len() == 0 {
             return tally;
         }
-        tally = one(row, tally, out);
+        tally = one(rt, row, tally, out);
     }
     tally
 }
 
-pub(crate) fn run(input: &mut [u8], out: &mut [u8]) {
-    let Got::Bytes(n) = read_full(input, b"cases: reading") else {
+pub(crate) fn run(rt: HostRuntime, input: &mut [u8], out: &mut [u8]) {
+    let Got::Bytes(n) = read_full(rt, input, b"cases: reading") else {
         return;
     };
-    let tally = all(part(input, 0, n), out);
+    let tally = all(rt, part(input, 0, n), out);
     let end = put_tally(out, 0, tally);
-    say(out, end);
+    say(rt, out, end);
 }

@@ -37,13 +37,16 @@ pub fn wide(n: u8) -> usize
     n as usize
 }
 
-// Copies a slice to the front of another that has room for it, and says how many bytes that are.
+// Copies a slice to the front of another that has room for all of it, and says how many bytes that are; else it copies nothing.
 pub fn copy(from: &[u8], to: &mut [u8]) -> usize
-    requires { length from.now ≤ length to.old }
-    ensures count { result ≡ length from.now }
-    ensures bytes { to.new ≡ take (length from.now) from.now ++ drop (length from.now) to.old }
+    ensures count { length from.now ≤ length to.old → result ≡ length from.now }
+    ensures bytes { length from.now ≤ length to.old → to.new ≡ take (length from.now) from.now ++ drop (length from.now) to.old }
+    ensures full { length to.old < length from.now → (result ≡ 0) × (to.new ≡ to.old) }
 {
     let n = from.len();
+    if to.len() < n {
+        return 0;
+    }
     to[..n].copy_from_slice(from);
     n
 }

@@ -18,9 +18,6 @@ abbrev pub Passed : List ℕ → ℕ → ℕ → Type 0
 Passed s from i = (from ≤ i) × ((o e : ℕ) → from ≤ o → Telegram s o e → i ≤ o)
 
 module _ (s : List ℕ) (from : ℕ) where
-  pub none_passed : Passed s from from
-  none_passed = (omega arith, λ o e f t. f)
-
   -- a telegram from i on ends behind the next CR
   ends-behind : (i c o e : ℕ) → NextCr s i c → i ≤ o → Telegram s o e → c + 1 ≤ e
   ends-behind i c o e n h t =

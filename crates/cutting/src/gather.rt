@@ -67,6 +67,7 @@ impl Gatherer {
     }
 
     // One byte.
+    #[tactic(auto, unfolding(crate::specs::Turns::turn_of))]
     fn gather_byte(self, byte: u8) -> Step
         requires { self.len < longest }
         ensures { (result.gatherer, gathered_of result.answer) ≡ turned self byte (turn_of self.len byte) }
@@ -89,6 +90,7 @@ impl Gatherer {
     }
 
     // One item: 15 where the state is out of its ranges; a hit drops what was begun.
+    #[tactic(auto, unfolding(crate::specs::Gather::gather_of))]
     pub fn gather(self, item: Item) -> Step
         ensures { (result.gatherer, gathered_of result.answer) ≡ gather_of self item }
     {

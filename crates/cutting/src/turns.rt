@@ -15,6 +15,7 @@ pub enum Turn {
 }
 
 // What a byte does where len bytes are gathered, 0 outside a telegram.
+#[tactic(auto, unfolding(crate::specs::Turns::turn_of))]
 pub fn turn_of(len: usize, byte: u8) -> Turn
     ensures { result ≡ turn_of len byte }
 {

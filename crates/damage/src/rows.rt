@@ -8,10 +8,10 @@ use text::putting::put_text;
 use text::tally::{Tally, put_tally};
 
 // Says a row, and counts it.
-fn told(name: &[u8], expected: &[u8], came: &[u8], tally: Tally) -> Tally {
+fn told(rt: HostRuntime, name: &[u8], expected: &[u8], came: &[u8], tally: Tally) -> Tally {
     let mut out = [0u8; 256];
     let n = put_row(&mut out, 0, name, expected, came);
-    write_out(&out, n, b"damage: writing");
+    write_out(rt, &out, n, b"damage: writing");
     tally.counted(expected, came)
 }
 
@@ -23,12 +23,12 @@ fn put_of(out: &mut [u8], n: u64, all: u64) -> usize {
 }
 
 // The row of n readings that are as is due; all are expected.
-fn row(name: &[u8], n: u64, all: u64, tally: Tally) -> Tally {
+fn row(rt: HostRuntime, name: &[u8], n: u64, all: u64, tally: Tally) -> Tally {
     let mut expected = [0u8; 64];
     let mut came = [0u8; 64];
     let a = put_of(&mut expected, all, all);
     let b = put_of(&mut came, n, all);
-    told(name, part(&expected, 0, a), part(&came, 0, b), tally)
+    told(rt, name, part(&expected, 0, a), part(&came, 0, b), tally)
 }
 
 fn put_name(out: &mut [u8], index: usize, how: &[u8]) -> usize {
@@ -38,29 +38,42 @@ fn put_name(out: &mut [u8], index: usize, how: &[u8]) -> usize {
 }
 
 // The row of one byte, which takes each of 256 values.
-fn byte_row(index: usize, right: bool, how: &[u8], tally: Tally) -> Tally {
+fn byte_row(rt: HostRuntime, index: usize, right: bool, how: &[u8], tally: Tally) -> Tally {
     let mut name = [0u8; 64];
     let n = put_name(&mut name, index, how);
-    row(part(&name, 0, n), telegrams::all(index, right), 256, tally)
+    row(
+        rt,
+        part(&name, 0, n),
+        telegrams::all(index, right),
+        256,
+        tally,
+    )
 }
 
-fn byte_rows(from: usize, to: usize, right: bool, how: &[u8], tally: Tally) -> Tally {
+fn byte_rows(
+    rt: HostRuntime,
+    from: usize,
+    to: usize,
+    right: bool,
+    how: &[u8],
+    tally: Tally,
+) -> Tally {
     let mut t = tally;
     for index in from..to {
-        t = byte_row(index, right, how, t);
+        t = byte_row(rt, index, right, how, t);
     }
     t
 }
 
-fn all() -> Tally {
-    let a = byte_rows(0, 23, false, b" replaced", Tally::start());
-    let b = byte_rows(3, 20, true, b" replaced, sum made right", a);
-    row(b"lengths 0 to 4095", telegrams::lengths(), 4096, b)
+fn all(rt: HostRuntime) -> Tally {
+    let a = byte_rows(rt, 0, 23, false, b" replaced", Tally::start());
+    let b = byte_rows(rt, 3, 20, true, b" replaced, sum made right", a);
+    row(rt, b"lengths 0 to 4095", telegrams::lengths(), 4096, b)
 }
 
-pub(crate) fn run() {
-    let tally = all();
+pub(crate) fn run(rt: HostRuntime) {
+    let tally = all(rt);
     let mut out = [0u8; 64];
     let n = put_tally(&mut out, 0, tally);
-    write_out(&out, n, b"damage: writing");
+    write_out(rt, &out, n, b"damage: writing");
 }

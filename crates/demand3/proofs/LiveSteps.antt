@@ -172,7 +172,7 @@ module _ {F : Type 0} where
     acts at MActs.gives l i s (works b) = record { begun = at; busy = rests }
 
     -- the master hears what is on the line
-    pub hears : {v v' : MView F} {o : Did F} {g : F} {r : Reading} {w : Line F} {now since begun t1 : ℕ} {u : DView F} {x : Tel F} {h : Hist F F} (at : ℕ) → MHears nak g r v o v'
+    pub hears : {v v' : MView F} {g : F} {o : Did F} {r : Reading} {w : Line F} {now since begun t1 : ℕ} {u : DView F} {x : Tel F} {h : Hist F F} (at : ℕ) → MHears nak g r v o v'
         → now ≤ at → (So (unended h) → at ≤ since + p) → Busy p v w now since begun t1 u x h
         → Behind p v' (line_after o empty) at (since_in since at h (hist_after o x h)) t1 u (tel_after o x h) (hist_after o x h)
     hears {since = since} {h = h} at MHears.ignores l i rests = record { begun = at; busy = rw (same-since since at h h refl) rests }

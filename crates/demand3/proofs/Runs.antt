@@ -61,8 +61,8 @@ outside-runs = computed.2
 pub not-allowed : NotAllowed
 not-allowed = computed.3
 
-pub at_bounds : AtBounds
-at_bounds = computed.4
+pub at-bounds : AtBounds
+at-bounds = computed.4
 
 pub past-bounds : PastBounds
 past-bounds = computed.5

@@ -89,6 +89,7 @@ outside-answered = (
 -- of lists of one entry each, the one with some entries left out has the other's
 one_left : {X : Type 0} {x y : X} → Sub (x ∷ []) (y ∷ []) → x ≡ y
 one_left (Sub.take s) = refl
+one_left (Sub.skip s) = elim s [ ]
 
 pub outside-unsent : OutsideUnsent
 outside-unsent = (of-held spoilt_passes_history (unlost, tt), λ s. let q : get_or spoilt_place.1 6 0 ≡ get_or first_place.1 6 0 = ap (λ (x : Tel (List ℕ)). get_or x.1 6 0) (one_left s) in omega (arith, q))

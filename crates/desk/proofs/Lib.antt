@@ -1,11 +1,8 @@
 pub mod Rulings
 pub mod Numbers
-pub mod Keys
 pub mod Permitted
-pub mod Places
 pub mod Ranges
 pub mod Calls
-pub mod Leaving
 pub mod Answering
 pub mod Sendings
 pub mod Order

@@ -1,14 +1,14 @@
--- The parts of the ranges, tested one after the other, and what a state in its ranges says of each part. Assumes nothing.
-use mathlib.Core.Path.{◌≡◌, sym}
+-- What a state in its ranges says of each part. Assumes nothing.
+use mathlib.Core.Path.{◌≡◌}
 use mathlib.Core.Bool.{Bool, true, false, not}
-use Prim.Native.Nat.{ℕ, ◌≤◌, ◌<◌}
+use Prim.Native.Nat.{ℕ, ◌≤◌}
 use lib.Dec.{leb, eqb}
 use lib.ListN.{take}
 use native.Mathlib.Omega.{arith}
-use borrow.Author.Tests.{le-leb, lt-leb, leb-true, eqb-true}
+use borrow.Author.Tests.{le-leb, leb-true, eqb-true}
 use Rattle.laws.specs.Truth.{from, every}
 use Rattle.laws.proofs.Truths.{both_left, both_right, both_true}
-use Rattle.laws.proofs.Passes.{both-off, on_test, on-cond, from-bounds}
+use Rattle.laws.proofs.Passes.{on_test, on-cond, from-bounds}
 use Rattle.forms.specs.Lines.{is_line}
 use Rattle.clock.specs.Counters.{in_range}
 use Rattle.characters.specs.Marks.{shortest, longest}
@@ -17,42 +17,6 @@ use Rattle.desk.specs.Panel.{noted_of}
 use Rattle.desk.specs.Fitting.{key_fits, wanted_fits}
 use Rattle.desk.specs.Waiting.{waiting_fits, kept_fits}
 use Rattle.desk.specs.State.{numbers_fit, records_fit, in_ranges}
-
-pub bad-line : (d : Desk) → is_line d.line ≡ false → false ≡ numbers_fit d
-unfolding numbers_fit
-bad-line d h = rw h
-
-pub bad-number : (d : Desk) → in_range d.last.0 ≡ false → false ≡ numbers_fit d
-unfolding numbers_fit
-bad-number d h = sym (both-off (is_line d.line) _ (rw h))
-
-pub bad-count : (d : Desk) → 8 < d.queued → false ≡ numbers_fit d
-unfolding numbers_fit
-bad-count d h = sym (both-off (is_line d.line) _ (both-off (in_range d.last.0) _ (rw (lt-leb d.queued 8 h))))
-
-pub numbers-by-key : (d : Desk) → is_line d.line ≡ true → in_range d.last.0 ≡ true → d.queued ≤ 8 → key_fits d.line d.key ≡ numbers_fit d
-unfolding numbers_fit
-numbers-by-key d h k l = rw (h, k, le-leb d.queued 8 l)
-
-pub bad-length : (d : Desk) → kept_fits d.good d.kept ≡ false → false ≡ records_fit d
-unfolding records_fit
-bad-length d h = rw h
-
-pub bad-wanted : (d : Desk) → wanted_fits d.line d.requested ≡ false → false ≡ records_fit d
-unfolding records_fit
-bad-wanted d h = sym (both-off (kept_fits d.good d.kept) _ (rw h))
-
-pub records-by-queue : (d : Desk) → kept_fits d.good d.kept ≡ true → wanted_fits d.line d.requested ≡ true → every (waiting_fits d.line) (take d.queued d.queue) ≡ records_fit d
-unfolding records_fit
-records-by-queue d h k = rw (h, k)
-
-pub bad-numbers : (d : Desk) → numbers_fit d ≡ false → false ≡ in_ranges d
-unfolding in_ranges
-bad-numbers d h = rw h
-
-pub ranges-by-records : (d : Desk) → numbers_fit d ≡ true → records_fit d ≡ in_ranges d
-unfolding in_ranges
-ranges-by-records d h = rw h
 
 -- what a state in its ranges says of each part
 pub record Fits (d : Desk) : Type 0 where

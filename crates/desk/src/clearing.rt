@@ -10,6 +10,7 @@ use records::refusals::Refusal;
 
 impl Desk {
     // Emptying the queue: 15; all else stays, the stored answer too.
+    #[tactic(auto, unfolding(crate::specs::Clearing::clear_queue_of))]
     pub fn clear_queue(self) -> Step
         ensures { (result.desk, done_of result.answer) ≡ clear_queue_of self }
     {
@@ -31,6 +32,7 @@ impl Desk {
     }
 
     // Taking back the record set for r: 15; all else stays.
+    #[tactic(auto, unfolding(crate::specs::Clearing::clear_set_of))]
     pub fn clear_set(self) -> Step
         ensures { (result.desk, done_of result.answer) ≡ clear_set_of self }
     {

@@ -40,6 +40,7 @@ pub enum Rule {
 }
 
 // What a telegram with this record is on a line.
+#[tactic(auto, unfolding(crate::specs::Deciding::matter_in))]
 fn matter_of(line: u8, rec: Record) -> Matter
     ensures { matter_of result ≡ matter_in line rec }
 {
@@ -57,6 +58,7 @@ fn matter_of(line: u8, rec: Record) -> Matter
 }
 
 // Whether the line is good and a number is the last taken.
+#[tactic(auto, unfolding(crate::specs::Deciding::repeats))]
 fn is_repeat(good: bool, last: LastTaken, number: u8) -> bool
     ensures { result ≡ repeats good last.0 number }
 {
@@ -64,6 +66,7 @@ fn is_repeat(good: bool, last: LastTaken, number: u8) -> bool
 }
 
 // The rule for a good frame.
+#[tactic(auto, unfolding(crate::specs::Deciding::good_frame))]
 fn on_good(good: bool, last: LastTaken, number: u8, matter: Matter) -> Rule
     ensures { ruling_of result ≡ good_frame good last.0 number (matter_of matter) }
 {
@@ -75,6 +78,7 @@ fn on_good(good: bool, last: LastTaken, number: u8, matter: Matter) -> Rule
 }
 
 // The rule for a frame that the reading refuses, with its number byte.
+#[tactic(auto, unfolding(crate::specs::Deciding::bad_frame))]
 fn on_refused(good: bool, last: LastTaken, refusal: Refusal, byte: u8) -> Rule
     ensures { ruling_of result ≡ bad_frame good last.0 (refusal_of refusal) byte }
 {
@@ -95,6 +99,7 @@ fn on_refused(good: bool, last: LastTaken, refusal: Refusal, byte: u8) -> Rule
 }
 
 // The rule for a frame, by its reading and its number byte.
+#[tactic(auto, unfolding(crate::specs::Deciding::ruling_in))]
 pub(crate) fn decide(line: u8, good: bool, last: LastTaken, frame: &[u8]) -> Rule
     ensures { ruling_of result ≡ ruling_in line good last.0 frame.now }
 {

@@ -10,6 +10,7 @@ use records::refusals::Refusal;
 
 impl Desk {
     // 15; what is left of T1 while the line is good; never while it is lost.
+    #[tactic(auto, unfolding(crate::specs::Due::due_of))]
     pub fn due(self, at: u32) -> Due
         ensures { when_of result ≡ due_of self at }
     {

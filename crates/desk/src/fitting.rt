@@ -9,6 +9,7 @@ use records::records::{Record, type_of};
 use values::values::permits_record;
 
 // Whether a record is of the slave's data type on a line, with permitted values.
+#[tactic(auto, unfolding(crate::specs::Fitting::may_reply))]
 pub(crate) fn may_reply(line: u8, rec: Record) -> bool
     ensures { result ≡ may_reply line rec }
 {
@@ -20,6 +21,7 @@ pub(crate) fn may_reply(line: u8, rec: Record) -> bool
 }
 
 // Whether a key position is one of a line: A, X or Y where A carries it, else A.
+#[tactic(auto, unfolding(crate::specs::Fitting::key_fits))]
 pub(crate) fn key_fits(line: u8, key: u8) -> bool
     ensures { result ≡ key_fits line key }
 {
@@ -28,6 +30,7 @@ pub(crate) fn key_fits(line: u8, key: u8) -> bool
 }
 
 // Whether a requested record may answer r on a line.
+#[tactic(auto, unfolding(crate::specs::Fitting::wanted_fits))]
 pub(crate) fn wanted_fits(line: u8, wanted: Wanted) -> bool
     ensures { result ≡ wanted_fits line wanted }
 {

@@ -1,5 +1,6 @@
 // The desk, the slave's end of a line (rules D1 to D19).
 #![tactic(auto)]
+
 pub mod answers;
 pub mod applying;
 pub mod clearing;

@@ -19,6 +19,7 @@ pub(crate) const T1: u32 = 28_000;
 
 impl Desk {
     // Whether the line is good and T1 has run out.
+    #[tactic(auto, unfolding(crate::specs::Panel::loses_line))]
     pub(crate) fn loses(self, at: u32) -> bool
         ensures { result ≡ loses_line self at }
     {
@@ -30,6 +31,7 @@ impl Desk {
     }
 
     // The state with the line noted lost, where it is.
+    #[tactic(auto, unfolding(crate::specs::Panel::noted_of))]
     pub(crate) fn noted(self, lost: bool) -> Desk
         ensures { result ≡ noted_of self lost }
     {
@@ -41,6 +43,7 @@ impl Desk {
     }
 
     // The first rule: line good and T1 run out means line lost.
+    #[tactic(auto, unfolding(crate::specs::Panel::tick_of))]
     pub fn tick(self, at: u32) -> Step
         ensures { (result.desk, done_of result.answer) ≡ tick_of self at }
     {
@@ -63,6 +66,7 @@ impl Desk {
     }
 
     // Checks 15, 12 and 13 on a record that the panel hands over.
+    #[tactic(auto, unfolding(crate::specs::Panel::record_fault))]
     fn record_check(self, rec: Record) -> Check
         ensures { fault_of result ≡ record_fault self rec }
     {
@@ -91,6 +95,7 @@ impl Desk {
     }
 
     // Queueing a record: 15, 12, 13, then 17 where 8 are queued.
+    #[tactic(auto, unfolding(crate::specs::Panel::queue_of))]
     pub fn queue(self, rec: Record) -> Step
         ensures { (result.desk, done_of result.answer) ≡ queue_of self rec }
     {
@@ -135,6 +140,7 @@ impl Desk {
     }
 
     // Setting a requested record: 15, 12, 13.
+    #[tactic(auto, unfolding(crate::specs::Panel::set_of))]
     pub fn set(self, rec: Record) -> Step
         ensures { (result.desk, done_of result.answer) ≡ set_of self rec }
     {
@@ -152,6 +158,7 @@ impl Desk {
     }
 
     // Checks 15, 12 and 13 on a key position: 12 on a line without one, whatever the value.
+    #[tactic(auto, unfolding(crate::specs::Panel::key_fault))]
     fn key_check(self, key: u8) -> Check
         ensures { fault_of result ≡ key_fault self key }
     {
@@ -169,6 +176,7 @@ impl Desk {
     }
 
     // The panel's key position: A, X or Y on a line that has one.
+    #[tactic(auto, unfolding(crate::specs::Panel::key_of))]
     pub fn turn_key(self, key: u8) -> Step
         ensures { (result.desk, done_of result.answer) ≡ key_of self key }
     {

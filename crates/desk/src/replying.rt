@@ -58,6 +58,7 @@ fn asked(wanted: Wanted) -> Reply
 }
 
 // What A carries when it answers t: the key position on a line that has one, else A.
+#[tactic(auto, unfolding(crate::specs::Replying::key_on))]
 fn key_on(line: u8, key: u8) -> u8
     ensures { result ≡ key_on line key }
 {
@@ -66,6 +67,7 @@ fn key_on(line: u8, key: u8) -> u8
 }
 
 // t: the oldest queued record, else A.
+#[tactic(auto, unfolding(crate::specs::Replying::polled_of))]
 fn polled(line: u8, key: u8, queued: usize, oldest: Record) -> Reply
     ensures { (result.rec, origin_of result.source) ≡ polled_of line key queued oldest }
 {

@@ -39,6 +39,7 @@ pub struct Step {
 
 impl Desk {
     // Whether line, number, count and key are in their ranges.
+    #[tactic(auto, unfolding(crate::specs::State::numbers_fit))]
     fn numbers_fit(self) -> bool
         ensures { result ≡ numbers_fit self }
     {
@@ -56,6 +57,7 @@ impl Desk {
     }
 
     // Whether the stored answer's length and the records are.
+    #[tactic(auto, unfolding(crate::specs::State::records_fit))]
     fn records_fit(self) -> bool
         ensures { result ≡ records_fit self }
     {
@@ -71,6 +73,7 @@ impl Desk {
     }
 
     // Whether the state is in its ranges; places past the count and stored bytes are not looked at.
+    #[tactic(auto, unfolding(crate::specs::State::in_ranges))]
     pub fn in_ranges(self) -> bool
         ensures { result ≡ in_ranges self }
     {
@@ -103,6 +106,7 @@ impl Desk {
     }
 
     // A start on a line; refused 15, with a blank state of line 0, where there is no such line.
+    #[tactic(auto, unfolding(crate::specs::State::start_of))]
     pub fn start(line: u8) -> Step
         ensures { (result.desk, done_of result.answer) ≡ start_of line }
     {

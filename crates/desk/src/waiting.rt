@@ -14,6 +14,7 @@ pub struct Waiting {
 }
 
 // Whether a stored answer's length is one: 0 while the line is lost, or 10 to 66.
+#[tactic(auto, unfolding(crate::specs::Waiting::kept_fits))]
 pub fn kept_fits(good: bool, kept: usize) -> bool
     ensures { result ≡ kept_fits good kept }
 {

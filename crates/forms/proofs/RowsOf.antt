@@ -1,6 +1,6 @@
 -- A search along the rows of the table: a row that is hit, one that is missed, and no rows left. Assumes nothing.
 use mathlib.Core.Path.{◌≡◌}
-use mathlib.Core.Bool.{Bool, true, false, cond}
+use mathlib.Core.Bool.{Bool, true, false}
 use mathlib.Core.List.{List}
 use Prim.Native.Nat.{ℕ, ◌<◌, ◌≤◌, ◌+◌}
 use native.Mathlib.Numerals.{add-one}
@@ -22,14 +22,3 @@ module _ (fs : List Form) (i : ℕ) (d : Form) (test : Form → Bool) (h : i < l
 pub none_left : (fs : List Form) (i : ℕ) (test : Form → Bool) → length fs ≤ i → look_in (drop i fs) test ≡ record { found = false; form = none }
 unfolding look_in
 none_left fs i test h = rw (drop_of_length-le fs {i = i} h)
-
--- the tests of the slave's data, one after the other: the first that holds shuts a row out
-module _ (m a n o : Bool) (e : m ≡ false) where
-  pub is-A : a ≡ true → false ≡ cond m false (cond a false (cond n false o))
-  is-A h = rw (e, h)
-
-  pub is-N : a ≡ false → n ≡ true → false ≡ cond m false (cond a false (cond n false o))
-  is-N h k = rw (e, h, k)
-
-  pub is-other : a ≡ false → n ≡ false → o ≡ cond m false (cond a false (cond n false o))
-  is-other h k = rw (e, h, k)

@@ -115,6 +115,7 @@ fn look(line: u8, sought: Sought) -> Looked
 }
 
 // The row of a type on a line by the letter of its first packet; where no row has the letter, the type's first row.
+#[tactic(auto, unfolding(crate::specs::Forms::form_of, crate::specs::Forms::type_row))]
 pub fn form_of(line: u8, kind: u8, letter: u8) -> Looked
     ensures { result ≡ form_of line kind letter }
 {
@@ -126,6 +127,7 @@ pub fn form_of(line: u8, kind: u8, letter: u8) -> Looked
 }
 
 // Whether the master sends this type on this line.
+#[tactic(auto, unfolding(crate::specs::Forms::type_row))]
 pub fn by_master(line: u8, kind: u8) -> bool
     ensures { result ≡ by_master line kind }
 {
@@ -138,6 +140,7 @@ pub fn by_master(line: u8, kind: u8) -> bool
 }
 
 // Whether the slave sends this type on this line.
+#[tactic(auto, unfolding(crate::specs::Forms::type_row))]
 pub(crate) fn by_slave(line: u8, kind: u8) -> bool
     ensures { result ≡ by_slave line kind }
 {
@@ -150,6 +153,7 @@ pub(crate) fn by_slave(line: u8, kind: u8) -> bool
 }
 
 // The slave's data type on a line (B, 5 or K), 0 where there is no such line.
+#[tactic(auto, unfolding(crate::specs::Forms::data_type))]
 pub fn data_type(line: u8) -> u8
     ensures { result ≡ data_type line }
 {

@@ -17,6 +17,7 @@ use desk::replying::Source;
 use desk::state::{Desk, Step};
 
 // The state behind a call is saved where it is not refused.
+#[tactic(auto, unfolding(crate::specs::Desks::stepped, crate::specs::Desks::desk_after))]
 fn close(step: Step, state: &mut [u8]) -> In656Result
     ensures { (result, state.new) ≡ stepped (step.desk, done_of step.answer) state.old }
 {
@@ -104,6 +105,7 @@ fn put_told(answer: Heard, block: &mut [u8])
 }
 
 // State and record block behind a hearing.
+#[tactic(auto, unfolding(crate::specs::Desks::heard_parts, crate::specs::Desks::desk_after))]
 fn close_hearing(hearing: Hearing, state: &mut [u8], block: &mut [u8]) -> In656Result
     ensures { (result, (state.new, block.new)) ≡ heard_parts hearing.desk (told_of hearing.answer) state.old block.old }
 {

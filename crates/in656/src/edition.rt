@@ -18,6 +18,7 @@ pub extern "C" fn in656_version() -> u32
     MAJOR * 65536 + MINOR * 256 + PATCH
 }
 
+#[tactic(auto, unfolding(crate::specs::Edition::same_edition))]
 #[unsafe(no_mangle)]
 pub extern "C" fn in656_same_edition(version: u32) -> u32
     ensures { result ≡ cond (same_edition version) 1 0 }

@@ -8,6 +8,7 @@ use blocks::gatherers::{GATHERER_LENGTH, gather_byte, gather_hit, save};
 use cutting::gather::Gatherer;
 use records::refusals::Refusal;
 
+#[tactic(auto, unfolding(crate::specs::Gatherers::gatherer_start))]
 #[unsafe(no_mangle)]
 pub extern "C" fn in656_gatherer_start(state: &mut [u8]) -> In656Result
     ensures { (result, state.new) ≡ gatherer_start state.old }

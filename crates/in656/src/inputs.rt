@@ -10,6 +10,7 @@ use records::records::{Record, record_of};
 use records::refusals::{Refusal, number_of};
 
 // A number as a byte, and another byte where it is wider.
+#[tactic(auto, unfolding(crate::specs::Inputs::byte_or))]
 pub fn byte_or(other: u8, n: u32) -> u8
     ensures { result ≡ byte_or other n }
 {
@@ -17,6 +18,7 @@ pub fn byte_or(other: u8, n: u32) -> u8
 }
 
 // The line that a start takes: none where the state has another length.
+#[tactic(auto, unfolding(crate::specs::Inputs::line_for))]
 pub fn line_for(size: usize, state: &[u8], line: u32) -> u8
     ensures { result ≡ line_for size state.now line }
 {
@@ -28,6 +30,7 @@ pub fn line_for(size: usize, state: &[u8], line: u32) -> u8
 }
 
 // The record of a type with values that no packet permits.
+#[tactic(auto, unfolding(crate::specs::Inputs::outside))]
 fn out_of_range(kind: u8) -> Record
     ensures { result ≡ outside kind }
 {

@@ -1,5 +1,6 @@
 // The C face (include/in656.h): the exported functions, on numbers and lent bytes.
 #![tactic(auto)]
+
 pub mod desks;
 pub mod due;
 pub mod edition;

@@ -11,6 +11,7 @@ use logs::writer::write_record;
 use records::refusals::Refusal;
 
 // The mark of a number.
+#[tactic(auto, unfolding(crate::specs::Logs::mark_in))]
 fn mark_in(number: u32) -> Marked
     ensures { result ≡ mark_in number }
 {

@@ -62,6 +62,7 @@ pub extern "C" fn in656_desk_look(state: &[u8], block: &mut [u8]) -> In656Result
 }
 
 // The record of the queue at an index is shown.
+#[tactic(auto, unfolding(crate::specs::Looks::waiting_shown))]
 fn show_waiting(desk: Desk, index: u32, block: &mut [u8]) -> In656Result
     requires { desk.queued ≤ 8 }
     ensures { (result, block.new) ≡ waiting_shown desk index block.old }
@@ -104,6 +105,7 @@ fn master_seen(outcome: u32, master: Master) -> In656Result
 }
 
 // The record that a master waits on is shown.
+#[tactic(auto, unfolding(crate::specs::Looks::master_shown))]
 fn show_master(master: Master, block: &mut [u8]) -> In656Result
     ensures { (result, block.new) ≡ master_shown master block.old }
 {

@@ -15,6 +15,7 @@ use master::hearing::hear;
 use master::state::{Master, Step};
 
 // The state behind a call is saved where it is not refused.
+#[tactic(auto, unfolding(crate::specs::Masters::stepped, crate::specs::Masters::master_after))]
 fn close(step: Step, state: &mut [u8]) -> In656Result
     ensures { (result, state.new) ≡ stepped (step.master, told_of step.answer) state.old }
 {

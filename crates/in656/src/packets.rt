@@ -50,6 +50,7 @@ fn packet_of(form: Form, index: u32) -> In656Result
     w.with_count(count as u8)
 }
 
+#[tactic(auto, unfolding(crate::specs::Packets::packet_call))]
 #[unsafe(no_mangle)]
 pub extern "C" fn in656_packet(line: u32, kind: u32, first: u32, index: u32) -> In656Result
     ensures { result ≡ packet_call line kind first index }
@@ -64,6 +65,7 @@ pub extern "C" fn in656_packet(line: u32, kind: u32, first: u32, index: u32) -> 
     packet_of(looked.form, index)
 }
 
+#[tactic(auto, unfolding(crate::specs::Packets::record_call))]
 #[unsafe(no_mangle)]
 pub extern "C" fn in656_record(line: u32, kind: u32, first: u32, block: &mut [u8]) -> In656Result
     ensures { (result, block.new) ≡ record_call line kind first block.old }
@@ -118,6 +120,7 @@ fn lies_in(form: Form, letter: u8) -> Lies
 }
 
 // Where the value of a letter lies in a block.
+#[tactic(auto, unfolding(crate::specs::Packets::lying))]
 fn value_at(line: u32, block: &[u8], letter: u32) -> Lies
     ensures { lies result ≡ lying line block.now letter }
 {

@@ -23,6 +23,7 @@ pub(crate) fn fill(reading: Reading, block: &mut [u8])
     }
 }
 
+#[tactic(auto, unfolding(crate::specs::Telegrams::read_call))]
 #[unsafe(no_mangle)]
 pub extern "C" fn in656_read(line: u32, frame: &[u8], block: &mut [u8]) -> In656Result
     ensures { (result, block.new) ≡ read_call line frame.now block.old }
@@ -39,6 +40,7 @@ pub extern "C" fn in656_read(line: u32, frame: &[u8], block: &mut [u8]) -> In656
     of_reading(reading)
 }
 
+#[tactic(auto, unfolding(crate::specs::Telegrams::write_call))]
 #[unsafe(no_mangle)]
 pub extern "C" fn in656_write(line: u32, block: &[u8], number: u32, out: &mut [u8]) -> In656Result
     ensures { (result, out.new) ≡ write_call line block.now number out.old }

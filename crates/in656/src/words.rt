@@ -19,6 +19,7 @@ fn words_in(table: &[u8], outcome: u32, detail: u32) -> &[u8]
 }
 
 // Puts words to the front of an output, with a 0 behind them.
+#[tactic(auto, unfolding(crate::specs::Words::worded))]
 fn put_words(words: &[u8], out: &mut [u8]) -> In656Result
     ensures { (result, out.new) ≡ worded words.now out.old }
 {

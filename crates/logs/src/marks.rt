@@ -20,6 +20,7 @@ pub enum Marked {
 }
 
 // The mark that two bytes are.
+#[tactic(auto, unfolding(crate::specs::Marks::mark_of))]
 pub fn mark_of(left: u8, right: u8) -> Marked
     ensures { result ≡ mark_of left right }
 {

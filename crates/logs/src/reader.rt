@@ -24,6 +24,7 @@ pub enum Next {
 }
 
 // What is left of a log behind a known mark: under seven bytes is 20, a bad length 19, missing bytes 20.
+#[tactic(auto, unfolding(crate::specs::Reader::known_in))]
 fn known(mark: Mark, rest: &[u8], from: usize) -> Next
     requires { from + length rest.now < 2 ^ 64 }
     ensures { next_of result ≡ known_in mark from rest.now }
@@ -48,6 +49,7 @@ fn known(mark: Mark, rest: &[u8], from: usize) -> Next
 }
 
 // What is left of a log from a place on: nothing is the end, one byte 20, a wrong mark 18.
+#[tactic(auto, unfolding(crate::specs::Reader::record_in))]
 fn record_in(rest: &[u8], from: usize) -> Next
     requires { from + length rest.now < 2 ^ 64 }
     ensures { next_of result ≡ record_in from rest.now }

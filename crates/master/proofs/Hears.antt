@@ -1,16 +1,12 @@
 -- The answers of the master's hearing, one after the other. Assumes nothing.
-use mathlib.Core.Path.{◌≡◌, ap, ◌∙◌}
+use mathlib.Core.Path.{◌≡◌, ◌∙◌}
 use mathlib.Core.Bool.{true, false}
 use mathlib.Core.List.{List}
 use Prim.Native.Nat.{ℕ, ◌≤◌}
 use lib.ListN.{length}
 use borrow.Author.Tests.{eq-eqb, ne_eqb}
-use Rattle.records.specs.Refusals.{refusal_of}
 use Rattle.records.specs.Records.{type_of}
-use Rattle.records.specs.declared.records.Record.{Record}
-use Rattle.records.specs.declared.refusals.Refusal.{Refusal}
-use Rattle.records.specs.Answers.{good, fails, answer_of}
-use Rattle.records.specs.declared.answers.Reading.{Reading}
+use Rattle.records.specs.Answers.{good}
 use Rattle.clock.specs.Clock.{run_out}
 use Rattle.characters.specs.Marks.{longest}
 use Rattle.master.specs.Answering.{Judged, judged_of, judge_of}
@@ -19,11 +15,11 @@ use Rattle.master.specs.declared.answering.Verdict.TheVariants as j
 use Rattle.master.specs.declared.state.Master.{Master}
 use Rattle.master.specs.declared.state.Step.{Step}
 use Rattle.master.specs.declared.answers.Reason.{Reason}
-use Rattle.master.specs.Answers.{rejected, Told, told_of}
-use Rattle.master.specs.State.{is_free, in_ranges, call_fault, with_line, answered_with}
+use Rattle.master.specs.Answers.{rejected}
+use Rattle.master.specs.State.{is_free, in_ranges, call_fault, with_line}
 use Rattle.master.specs.Sending.{t2_limit, fail_of}
-use Rattle.master.specs.Hearing.{ended_of, settled_of, judged, hear_of}
-use Rattle.master.proofs.Sends.{stepped, refusing, fail-passed}
+use Rattle.master.specs.Hearing.{settled_of, hear_of}
+use Rattle.master.proofs.Sends.{stepped, fail-passed}
 use Rattle.master.specs.declared.answers.Reason as r
 use Rattle.master.specs.declared.answers.Answer as a
 
@@ -31,37 +27,13 @@ use Rattle.master.specs.declared.answers.Answer as a
 abbrev pub ignoring : Master → Reason → Step
 ignoring m why = record { master = m; answer = a.TheVariants.Ignored why }
 
--- the step of a permitted answer
-abbrev pub permitting : Master → Record → ℕ → Step
-permitting m rec count = record { master = m; answer = a.TheVariants.Answered rec count }
-
--- what a verdict makes of state and output
+-- a failed sending with the line good
 module _ (m : Master) (at : ℕ) (out : List ℕ) (v : Verdict) where
-  pub settle-bad : (x : Refusal) → v ≡ j.Refused x → (s : Step) → s ≡ ignoring m (r.TheVariants.Refused x) → stepped s out ≡ settled_of m at (judged_of v) out
-  settle-bad x h s e = rw (h, e)
-
-  pub settle_other : v ≡ j.OtherNumber → (s : Step) → s ≡ ignoring m r.TheVariants.OtherNumber → stepped s out ≡ settled_of m at (judged_of v) out
-  settle_other h s e = rw (h, e)
-
   module _ (n : Master) (e : n ≡ with_line m true) where
     pub settle-failed : v ≡ j.Failed → in_ranges n ≡ true → is_free n ≡ false → longest ≤ length out → fail_of rejected true n at out ≡ settled_of m at (judged_of v) out
     settle-failed h r b room = fail-passed rejected true n at out r b room ∙ rw (h, e)
 
-    pub settle-answered : (rec : Record) → v ≡ j.Answered rec → (s : Step) → s ≡ permitting (answered_with n rec) rec n.count → stepped s out ≡ settled_of m at (judged_of v) out
-    settle-answered rec h s q = rw (h, q, e)
-
-    pub settle-ended : (reading : Reading) → v ≡ j.OtherKind reading → (s : Step) → (s.master, told_of s.answer) ≡ ended_of n (answer_of reading) → stepped s out ≡ settled_of m at (judged_of v) out
-    settle-ended reading h s q =
-        ap (λ (end : Master × Told). (end.0, (end.1, out))) (q ∙ ap (λ (k : Master). ended_of k (answer_of reading)) e) ∙ rw h
-
 module _ (m : Master) (at : ℕ) (frame out : List ℕ) where
-  pub weighed : (kind : ℕ) → kind ≡ type_of m.rec → (v : Judged) → v ≡ judge_of m.line m.number.0 kind frame → settled_of m at v out ≡ settled_of m at (judged m frame) out
-  weighed kind q v e = rw (e, q)
-
-  pub hear-refused : (x : Refusal) → fails (refusal_of x) ≡ call_fault m (length out) → (s : Step) → s ≡ refusing m x → stepped s out ≡ hear_of m at frame out
-  unfolding hear_of
-  hear-refused x h s e = rw (e, ← h)
-
   module _ (g : good ≡ call_fault m (length out)) where
     pub hear-free : m.count ≡ 0 → (s : Step) → s ≡ ignoring m r.TheVariants.Free → stepped s out ≡ hear_of m at frame out
     unfolding hear_of

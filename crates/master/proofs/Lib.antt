@@ -1,4 +1,3 @@
-pub mod Types
 pub mod Positions
 pub mod Verdicts
 pub mod Ranges

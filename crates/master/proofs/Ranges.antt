@@ -1,10 +1,10 @@
--- The ranges of the master's state: the test of them, and what it says of a state that passes. Assumes nothing.
+-- The ranges of the master's state: what a state that passes their test has. Assumes nothing.
 use mathlib.Core.Path.{◌≡◌, refl, sym}
 use mathlib.Core.Bool.{Bool, true, false, cond}
 use Prim.Native.Nat.{ℕ, ◌≤◌, ◌<◌}
 use native.Mathlib.Omega.{arith}
 use lib.Dec.{ltb}
-use borrow.Author.Tests.{lt-ltb, le-ltb, eq-eqb, ne_eqb, ltb-true, ltb-false}
+use borrow.Author.Tests.{le-ltb, ltb-true, ltb-false}
 use Rattle.laws.specs.Truth.{both}
 use Rattle.laws.proofs.Truths.{both_left, both_right, both_true}
 use Rattle.laws.specs.Numerals.{numeral_on, left_of}
@@ -23,46 +23,11 @@ use Rattle.characters.specs.Marks.{longest}
 use Rattle.master.specs.Rules.{poll_of}
 use Rattle.master.specs.Times.{operation_fits}
 use Rattle.master.specs.declared.state.Master.{Master}
-use Rattle.master.specs.Answers.{refused, nothing}
-use Rattle.master.specs.State.{is_free, sendable, fits_free, in_ranges, call_fault, with_line, started, unstarted, start_of}
+use Rattle.master.specs.State.{is_free, sendable, fits_free, in_ranges, call_fault, with_line}
 
 -- a fault is no pass
 pub no-pass : {A : Type 0} {x : No} → fails x ≡ good → A
 no-pass h = let z : ◌≡◌ {A = ℕ} 0 1 = cc in let y : ⊥ = omega arith in absurd y
-
--- what is asked of a free state, in the order of its parts
-module _ (m : Master) where
-  pub no_line : is_line m.line ≡ false → false ≡ fits_free m
-  unfolding fits_free
-  no_line h = rw h
-
-  module _ (l : is_line m.line ≡ true) where
-    pub no_number : in_range m.number.0 ≡ false → false ≡ fits_free m
-    unfolding fits_free
-    no_number h = rw (l, h)
-
-    pub by_flag : in_range m.number.0 ≡ true → operation_fits m.line m.operation ≡ fits_free m
-    unfolding fits_free
-    by_flag h = rw (l, h)
-
--- the whole test likewise
-module _ (m : Master) where
-  pub unfit : fits_free m ≡ false → false ≡ in_ranges m
-  unfolding in_ranges
-  unfit h = rw h
-
-  module _ (l : fits_free m ≡ true) where
-    pub while-free : m.count ≡ 0 → true ≡ in_ranges m
-    unfolding in_ranges
-    while-free h = rw (l, eq-eqb m.count 0 h)
-
-    pub too_many : ¬ (m.count ≡ 0) → 3 < m.count → false ≡ in_ranges m
-    unfolding in_ranges
-    too_many h k = let b : 4 ≤ m.count = omega arith in rw (l, ne_eqb m.count 0 h, le-ltb m.count 4 b)
-
-    pub while-busy : ¬ (m.count ≡ 0) → m.count ≤ 3 → sendable m.line m.rec ≡ in_ranges m
-    unfolding in_ranges
-    while-busy h k = let b : m.count < 4 = omega arith in rw (l, ne_eqb m.count 0 h, lt-ltb m.count 4 b)
 
 -- what a state in its ranges has
 module _ (m : Master) (h : in_ranges m ≡ true) where
@@ -94,16 +59,6 @@ module _ (m : Master) (h : in_ranges m ≡ true) where
   pub sends : is_free m ≡ false → sendable m.line m.rec ≡ true
   sends b = both_right (ltb m.count 4) _ (busy b)
 
--- whether the master may send a record
-module _ (line : ℕ) (rec : Record) (kind : ℕ) (e : kind ≡ type_of rec) where
-  pub sends-type : by_master line kind ≡ true → permits_record line rec ≡ sendable line rec
-  unfolding sendable
-  sends-type h = let k : by_master line (type_of rec) ≡ true = rw e at h in rw k
-
-  pub other-type : by_master line kind ≡ false → false ≡ sendable line rec
-  unfolding sendable
-  other-type h = let k : by_master line (type_of rec) ≡ false = rw e at h in rw k
-
 -- a record that the master may send is permitted
 pub sendable-permits : (line : ℕ) (rec : Record) → sendable line rec ≡ true → permits_record line rec ≡ true
 unfolding sendable
@@ -131,14 +86,6 @@ line-noted-busy m n g e h = rw e h
 
 -- 15, then 14
 module _ (m : Master) (room : ℕ) where
-  pub out_of_range : in_ranges m ≡ false → fails (no 15 0) ≡ call_fault m room
-  unfolding call_fault
-  out_of_range h = rw h
-
-  pub no_room : in_ranges m ≡ true → room < longest → fails (no 14 0) ≡ call_fault m room
-  unfolding call_fault
-  no_room h k = rw (h, lt-ltb room longest k)
-
   pub passes : in_ranges m ≡ true → longest ≤ room → good ≡ call_fault m room
   unfolding call_fault
   passes h k = rw (h, le-ltb room longest k)
@@ -151,13 +98,3 @@ module _ (m : Master) (room : ℕ) where
       go true false k e = (refl, k refl)
       go true true k e = no-pass e
       go false s k e = no-pass e
-
--- the start, refused 15 where there is no such line
-module _ (line at : ℕ) where
-  pub start-refused : is_line line ≡ false → (unstarted, refused (no 15 0)) ≡ start_of line at
-  unfolding start_of
-  start-refused h = rw h
-
-  pub start-made : is_line line ≡ true → (started line at, nothing) ≡ start_of line at
-  unfolding start_of
-  start-made h = rw h

@@ -6,10 +6,9 @@ use Prim.Native.Nat.{ℕ, ◌+◌, ◌≤◌, ◌<◌}
 use lib.ListN.{length}
 use borrow.Author.Tests.{eq-eqb, ne_eqb}
 use Rattle.forms.specs.Forms.{by_master}
-use Rattle.records.specs.Refusals.{no, refusal_of}
+use Rattle.records.specs.Refusals.{no}
 use Rattle.records.specs.Records.{type_of}
 use Rattle.records.specs.declared.records.Record.{Record}
-use Rattle.records.specs.declared.refusals.Refusal.{Refusal}
 use Rattle.values.specs.Values.{permits_record}
 use Rattle.records.specs.Answers.{good, fails}
 use Rattle.writing.specs.Writing.{send_of}
@@ -19,24 +18,16 @@ use Rattle.characters.specs.Marks.{longest}
 use Rattle.master.specs.Rules.{poll_of}
 use Rattle.master.specs.declared.state.Master.{Master}
 use Rattle.master.specs.declared.state.Step.{Step}
-use Rattle.master.specs.Answers.{Which, offered, again, poll, Ground, silence, told_of, nothing, sent, given_up}
+use Rattle.master.specs.Answers.{Which, again, poll, Ground, silence, told_of, nothing, sent, given_up}
 use Rattle.master.specs.State.{is_free, in_ranges, call_fault, after_sending, with_line, given_up_state}
-use Rattle.master.specs.Sending.{Behind, t0_limit, t2_limit, sending_of, failed_of, fail_of, offer_fault, offer_of, polling_of, waiting_of, tick_of}
+use Rattle.master.specs.Sending.{Behind, t0_limit, t2_limit, sending_of, failed_of, fail_of, offer_fault, polling_of, waiting_of, tick_of}
 use Rattle.master.proofs.Ranges.{no-pass, passes}
-use Rattle.master.specs.declared.answers.Answer as a
 
 -- a step with the output behind it
 abbrev pub stepped : Step → List ℕ → Behind
 stepped s out = (s.master, (told_of s.answer, out))
 
--- a refused call's step
-abbrev pub refusing : Master → Refusal → Step
-refusing m x = record { master = m; answer = a.TheVariants.Refused x }
-
--- the step of a call that does nothing
-abbrev pub unmoved : Master → Step
-unmoved m = record { master = m; answer = a.TheVariants.Nothing }
-
+-- what was written is the whole telegram, since there is room
 pub sent-off : (which : Which) (m n : Master) (rec : Record) (count at number bytes : ℕ) (out new : List ℕ) → permits_record m.line rec ≡ true → m.number.0 < 2 → longest ≤ length out
     → n ≡ after_sending m rec count at → number ≡ m.number.0 → (bytes, new) ≡ send_of m.line rec number out → (n, (sent which count bytes, new)) ≡ sending_of which m rec count at out
 unfolding sending_of
@@ -44,52 +35,22 @@ sent-off which m n rec count at number bytes out new p l room e q f =
     let g : (bytes, new) ≡ send_of m.line rec m.number.0 out = rw q at f in
     rw (e, ← (g ∙ sent-whole m.line rec m.number.0 out p l room))
 
-module _ (ground : Ground) (g : Bool) (m : Master) (at : ℕ) (out : List ℕ) where
-  pub gave-up : m.count ≡ 3 → (n : Master) → n ≡ given_up_state (with_line m g) → (n, (given_up ground m.count, out)) ≡ failed_of ground g m at out
+module _ (cause : Ground) (g : Bool) (m : Master) (at : ℕ) (out : List ℕ) where
+  pub gave-up : m.count ≡ 3 → (n : Master) → n ≡ given_up_state (with_line m g) → (n, (given_up cause m.count, out)) ≡ failed_of cause g m at out
   unfolding failed_of
   gave-up h n e = rw (e, eq-eqb m.count 3 h)
 
-  pub sent-again : ¬ (m.count ≡ 3) → sending_of again m m.rec (m.count + 1) at out ≡ failed_of ground g m at out
+  pub sent-again : ¬ (m.count ≡ 3) → sending_of again m m.rec (m.count + 1) at out ≡ failed_of cause g m at out
   unfolding failed_of
   sent-again h = rw (ne_eqb m.count 3 h)
 
-  pub fail-refused : (x : Refusal) → fails (refusal_of x) ≡ call_fault m (length out) → (s : Step) → s ≡ refusing m x → stepped s out ≡ fail_of ground g m at out
-  unfolding fail_of
-  fail-refused x h s e = rw (e, ← h)
-
-  module _ (k : good ≡ call_fault m (length out)) where
-    pub fail-free : m.count ≡ 0 → (s : Step) → s ≡ unmoved m → stepped s out ≡ fail_of ground g m at out
-    unfolding fail_of
-    fail-free h s e = rw (e, ← k, eq-eqb m.count 0 h)
-
-    pub fail-busy : ¬ (m.count ≡ 0) → failed_of ground g m at out ≡ fail_of ground g m at out
-    unfolding fail_of
-    fail-busy h = rw (← k, ne_eqb m.count 0 h)
-
   -- a state that passes the checks and is not free
-  pub fail-passed : in_ranges m ≡ true → is_free m ≡ false → longest ≤ length out → fail_of ground g m at out ≡ failed_of ground g m at out
+  pub fail-passed : in_ranges m ≡ true → is_free m ≡ false → longest ≤ length out → fail_of cause g m at out ≡ failed_of cause g m at out
   unfolding fail_of
   fail-passed h b room = rw (← (passes m (length out) h room), b)
 
--- 16, then 12, then 13
+-- an offer that is not refused is of a free state, and its record is one that the master may send
 module _ (m : Master) (rec : Record) where
-  pub not_free : ¬ (m.count ≡ 0) → fails (no 16 0) ≡ offer_fault m rec
-  unfolding offer_fault
-  not_free h = rw (ne_eqb m.count 0 h)
-
-  module _ (f : m.count ≡ 0) (kind : ℕ) (e : kind ≡ type_of rec) where
-    pub not-sent : by_master m.line kind ≡ false → fails (no 12 0) ≡ offer_fault m rec
-    unfolding offer_fault
-    not-sent h = let k : by_master m.line (type_of rec) ≡ false = rw e at h in rw (eq-eqb m.count 0 f, k)
-
-    pub not-permitted : by_master m.line kind ≡ true → permits_record m.line rec ≡ false → fails (no 13 0) ≡ offer_fault m rec
-    unfolding offer_fault
-    not-permitted h p = let k : by_master m.line (type_of rec) ≡ true = rw e at h in rw (eq-eqb m.count 0 f, k, p)
-
-    pub may-offer : by_master m.line kind ≡ true → permits_record m.line rec ≡ true → good ≡ offer_fault m rec
-    unfolding offer_fault
-    may-offer h p = let k : by_master m.line (type_of rec) ≡ true = rw e at h in rw (eq-eqb m.count 0 f, k, p)
-
   pub offer-passed : good ≡ offer_fault m rec → (is_free m ≡ true) × ((by_master m.line (type_of rec) ≡ true) × (permits_record m.line rec ≡ true))
   unfolding offer_fault
   offer-passed h = go (is_free m) (by_master m.line (type_of rec)) (permits_record m.line rec) (sym h)
@@ -99,20 +60,6 @@ module _ (m : Master) (rec : Record) where
       go true true false e = no-pass e
       go true false p e = no-pass e
       go false b p e = no-pass e
-
-module _ (m : Master) (at : ℕ) (rec : Record) (out : List ℕ) where
-  pub offer-refused : (x : Refusal) → fails (refusal_of x) ≡ call_fault m (length out) → (s : Step) → s ≡ refusing m x → stepped s out ≡ offer_of m at rec out
-  unfolding offer_of
-  offer-refused x h s e = rw (e, ← h)
-
-  module _ (g : good ≡ call_fault m (length out)) where
-    pub offer-barred : (x : Refusal) → fails (refusal_of x) ≡ offer_fault m rec → (s : Step) → s ≡ refusing m x → stepped s out ≡ offer_of m at rec out
-    unfolding offer_of
-    offer-barred x h s e = rw (e, ← g, ← h)
-
-    pub offer-sent : good ≡ offer_fault m rec → sending_of offered m rec 1 at out ≡ offer_of m at rec out
-    unfolding offer_of
-    offer-sent h = rw (← g, ← h)
 
 module _ (m : Master) (at : ℕ) (out : List ℕ) where
   -- the poll, and the wait for an answer
@@ -132,10 +79,6 @@ module _ (m : Master) (at : ℕ) (out : List ℕ) where
   pub silent : run_out at m.t2 t2_limit ≡ true → failed_of silence false m at out ≡ waiting_of m at out
   unfolding waiting_of
   silent h = rw h
-
-  pub tick-refused : (x : Refusal) → fails (refusal_of x) ≡ call_fault m (length out) → (s : Step) → s ≡ refusing m x → stepped s out ≡ tick_of m at out
-  unfolding tick_of
-  tick-refused x h s e = rw (e, ← h)
 
   module _ (g : good ≡ call_fault m (length out)) where
     pub tick-free : m.count ≡ 0 → polling_of m at out ≡ tick_of m at out

@@ -41,12 +41,12 @@ module _ (m : Master) (at : ℕ) (out : List ℕ) where
   unfolding sending_of
   sends which g rec count = record { t0 = refl; t2 = refl }
 
-  gives_up : (ground : Ground) (g line : Bool) → Timed m at (given_up_state (with_line (with_line m line) g), (given_up ground m.count, out))
-  gives_up ground g line = record { t0 = refl; t2 = refl }
+  gives_up : (cause : Ground) (g line : Bool) → Timed m at (given_up_state (with_line (with_line m line) g), (given_up cause m.count, out))
+  gives_up cause g line = record { t0 = refl; t2 = refl }
 
-  failed : (ground : Ground) (g line : Bool) → Timed m at (failed_of ground g (with_line m line) at out)
+  failed : (cause : Ground) (g line : Bool) → Timed m at (failed_of cause g (with_line m line) at out)
   unfolding failed_of
-  failed ground g line = split (eqb m.count 3) (gives_up ground g line) (sends again line m.rec (m.count + 1))
+  failed cause g line = split (eqb m.count 3) (gives_up cause g line) (sends again line m.rec (m.count + 1))
 
   settled : (what : Judged) → Timed m at (settled_of m at what out)
   settled (j.refused x) = unheard (t.Why.refused x)
@@ -76,5 +76,5 @@ hear-timed m at frame out =
 
 pub fail-timed : FailTimed
 unfolding fail_of
-fail-timed ground g m at out =
-    guard m at out (call_fault m (length out)) (split m at out (is_free m) (idle m at out) (failed m at out ground g m.good))
+fail-timed cause g m at out =
+    guard m at out (call_fault m (length out)) (split m at out (is_free m) (idle m at out) (failed m at out cause g m.good))

@@ -40,16 +40,16 @@ sending_of which m rec count at out = tells (sent_of (telegram_of m.line rec m.n
 
 -- a failed sending: with a count of 1 or 2 it sends the same bytes again and adds 1; with 3 it gives up, and the line is then good or lost
 unfoldable pub failed_of : Ground → Bool → Master → ℕ → List ℕ → Behind
-failed_of ground g m at out =
+failed_of cause g m at out =
     cond (eqb m.count 3)
-    (given_up_state (with_line m g), (given_up ground m.count, out))
+    (given_up_state (with_line m g), (given_up cause m.count, out))
     (sending_of again m m.rec (m.count + 1) at out)
 
 -- 15, then 14; a failed sending while not free
 unfoldable pub fail_of : Ground → Bool → Master → ℕ → List ℕ → Behind
-fail_of ground g m at out =
+fail_of cause g m at out =
     unless_refused (call_fault m (length out)) m out
-    (cond (is_free m) (m, (nothing, out)) (failed_of ground g m at out))
+    (cond (is_free m) (m, (nothing, out)) (failed_of cause g m at out))
 
 -- the offer: 16 where the master is not free, T2 run out or not; 12 where it does not send the record on this line; 13 where a value is outside its range
 unfoldable pub offer_fault : Master → Record → Fault

@@ -13,7 +13,7 @@ start_behind nothing at before = before
 start_behind (sent which count bytes) at before = at
 start_behind (answered rec count) at before = before
 start_behind (other_kind answer count) at before = before
-start_behind (given_up ground count) at before = before
+start_behind (given_up cause count) at before = before
 start_behind (ignored why) at before = before
 
 -- so start both timers of a state, behind a call at a time
@@ -35,4 +35,4 @@ HearTimed = (m : Master) (at : ℕ) (frame out : List ℕ) → Timed m at (hear_
 
 -- and by a failed sending
 abbrev pub FailTimed : Type 0
-FailTimed = (ground : Ground) (good : Bool) (m : Master) (at : ℕ) (out : List ℕ) → Timed m at (fail_of ground good m at out)
+FailTimed = (cause : Ground) (good : Bool) (m : Master) (at : ℕ) (out : List ℕ) → Timed m at (fail_of cause good m at out)

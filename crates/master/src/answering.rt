@@ -28,6 +28,7 @@ pub enum Verdict {
 }
 
 // A record that answers: a failed sending, a permitted answer, or an answer of another kind.
+#[tactic(auto, unfolding(crate::specs::Answering::answered_by))]
 fn on_record(line: u8, sent: u8, rec: Record, number: u8) -> Verdict
     ensures { judged_of result ≡ answered_by line sent rec number }
 {
@@ -51,6 +52,7 @@ fn on_reading(line: u8, sent: u8, reading: Reading) -> Verdict
 }
 
 // A frame is ignored when refused 1 to 7, or when its number is another.
+#[tactic(auto, unfolding(crate::specs::Answering::judge_of))]
 pub(crate) fn judge(line: u8, number: ToSend, sent: u8, frame: &[u8]) -> Verdict
     ensures { judged_of result ≡ judge_of line number.0 sent frame.now }
 {

@@ -11,6 +11,7 @@ use records::refusals::Refusal;
 
 impl Master {
     // 15; what is left of T0 while free, and of T2 while not.
+    #[tactic(auto, unfolding(crate::specs::Due::due_of))]
     pub fn due(self, at: u32) -> Due
         ensures { when_of result ≡ due_of self at }
     {

@@ -77,6 +77,7 @@ fn weigh(master: Master, at: u32, frame: &[u8], out: &mut [u8]) -> Step
 }
 
 // Ignored while free, and when T2 has run out.
+
 fn listen(master: Master, at: u32, frame: &[u8], out: &mut [u8]) -> Step
     requires { (in_ranges master ≡ true) × (longest ≤ length out.old) }
     ensures { (result.master, (told_of result.answer, out.new)) ≡ hear_of master at frame.now out.old }
@@ -91,6 +92,7 @@ fn listen(master: Master, at: u32, frame: &[u8], out: &mut [u8]) -> Step
 }
 
 // Hear: 15, then 14, then by the state it finds.
+#[tactic(auto, unfolding(crate::specs::Hearing::hear_of))]
 pub fn hear(master: Master, at: u32, frame: &[u8], out: &mut [u8]) -> Step
     ensures { (result.master, (told_of result.answer, out.new)) ≡ hear_of master at frame.now out.old }
 {

@@ -1,5 +1,6 @@
 // The master's end of a line, the bench (rules M1 to M19).
 #![tactic(auto)]
+
 pub mod answering;
 pub mod answers;
 pub mod due;

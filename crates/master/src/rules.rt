@@ -8,6 +8,7 @@ use forms::table::data_type;
 use records::records::{Record, type_of, values_of};
 
 // The poll of a line: t, or r for the slave's data type.
+#[tactic(auto, unfolding(crate::specs::Rules::poll_of))]
 pub(crate) fn poll_of(line: u8) -> Record
     ensures { result ≡ poll_of line }
 {
@@ -33,6 +34,7 @@ fn is_one(n: u32, a: u32, b: u32) -> bool
 }
 
 // Whether an answer is N with 1 or 2, a failed sending.
+#[tactic(auto, unfolding(crate::specs::Rules::is_failure))]
 pub fn is_failure(rec: Record) -> bool
     ensures { result ≡ is_failure rec }
 {
@@ -44,6 +46,7 @@ pub fn is_failure(rec: Record) -> bool
 }
 
 // Whether a type is a permitted answer to a type that was sent on a line.
+#[tactic(auto, unfolding(crate::specs::Rules::permitted_answer, crate::specs::Rules::answers_to))]
 pub(crate) fn permitted_answer(line: u8, sent: u8, got: u8) -> bool
     ensures { result ≡ permitted_answer line sent got }
 {

@@ -25,6 +25,7 @@ pub const T2: u32 = 2_000;
 
 impl Master {
     // Sends a record's telegram with the number to send; every sending restarts T0 and T2.
+    #[tactic(auto, unfolding(crate::specs::Sending::sending_of))]
     fn send(self, sending: Sending, rec: Record, count: u8, at: u32, out: &mut [u8]) -> Step
         requires { (permits_record self.line rec ≡ true) × ((self.number.0 < 2) × (longest ≤ length out.old)) }
         ensures { (result.master, (told_of result.answer, out.new)) ≡ sending_of (which_of sending) self rec count at out.old }
@@ -50,6 +51,7 @@ impl Master {
     }
 
     // A failed sending: sent again with a count of 1 or 2, given up with 3.
+    #[tactic(auto, unfolding(crate::specs::Sending::failed_of))]
     fn failed(self, cause: Cause, good: bool, at: u32, out: &mut [u8]) -> Step
         requires { (in_ranges self ≡ true) × ((is_free self ≡ false) × (longest ≤ length out.old)) }
         ensures { (result.master, (told_of result.answer, out.new)) ≡ failed_of (ground_of cause) good self at out.old }
@@ -66,6 +68,7 @@ impl Master {
     }
 
     // A failed sending of a state that is not free: 15, 14, then as above; while free, nothing.
+    #[tactic(auto, unfolding(crate::specs::Sending::fail_of))]
     pub(crate) fn fail(self, cause: Cause, good: bool, at: u32, out: &mut [u8]) -> Step
         ensures { (result.master, (told_of result.answer, out.new)) ≡ fail_of (ground_of cause) good self at out.old }
     {
@@ -80,6 +83,7 @@ impl Master {
     }
 
     // What refuses an offer: 16, then 12, then 13.
+    #[tactic(auto, unfolding(crate::specs::Sending::offer_fault))]
     fn offer_check(self, rec: Record) -> Check
         ensures { fault_of result ≡ offer_fault self rec }
     {
@@ -96,6 +100,7 @@ impl Master {
     }
 
     // Offer while free: sends; sending count 1; T0 and T2 start.
+    #[tactic(auto, unfolding(crate::specs::Sending::offer_of))]
     pub fn offer(self, at: u32, rec: Record, out: &mut [u8]) -> Step
         ensures { (result.master, (told_of result.answer, out.new)) ≡ offer_of self at rec out.old }
     {
@@ -111,6 +116,7 @@ impl Master {
     }
 
     // Tick while free and T0 run out: sends the poll.
+    #[tactic(auto, unfolding(crate::specs::Sending::polling_of))]
     fn poll(self, at: u32, out: &mut [u8]) -> Step
         requires { (in_ranges self ≡ true) × (longest ≤ length out.old) }
         ensures { (result.master, (told_of result.answer, out.new)) ≡ polling_of self at out.old }
@@ -122,6 +128,7 @@ impl Master {
     }
 
     // Tick while not free and T2 run out: a failed sending; giving up notes the line lost.
+    #[tactic(auto, unfolding(crate::specs::Sending::waiting_of))]
     fn wait(self, at: u32, out: &mut [u8]) -> Step
         requires { (in_ranges self ≡ true) × ((is_free self ≡ false) × (longest ≤ length out.old)) }
         ensures { (result.master, (told_of result.answer, out.new)) ≡ waiting_of self at out.old }
@@ -133,6 +140,7 @@ impl Master {
     }
 
     // A tick does at most one thing, by the state it finds.
+    #[tactic(auto, unfolding(crate::specs::Sending::tick_of))]
     pub fn tick(self, at: u32, out: &mut [u8]) -> Step
         ensures { (result.master, (told_of result.answer, out.new)) ≡ tick_of self at out.old }
     {

@@ -38,6 +38,7 @@ pub struct Step {
 }
 
 // Whether the master may send a record on a line: its type, and its values.
+#[tactic(auto, unfolding(crate::specs::State::sendable))]
 fn may_send(line: u8, rec: Record) -> bool
     ensures { result ≡ sendable line rec }
 {
@@ -50,6 +51,7 @@ fn may_send(line: u8, rec: Record) -> bool
 
 impl Master {
     // Starts free, number 0, line good, T0 running from the start call.
+    #[tactic(auto, unfolding(crate::specs::State::start_of))]
     pub fn start(line: u8, at: u32) -> Step
         ensures { (result.master, told_of result.answer) ≡ start_of line at }
     {
@@ -84,6 +86,7 @@ impl Master {
     }
 
     // What is asked of a free state: the line, the number and the flag are in their ranges.
+    #[tactic(auto, unfolding(crate::specs::State::fits_free))]
     fn fits_free(self) -> bool
         ensures { result ≡ fits_free self }
     {
@@ -98,6 +101,7 @@ impl Master {
     }
 
     // Whether the state is in its ranges.
+    #[tactic(auto, unfolding(crate::specs::State::in_ranges))]
     pub fn in_ranges(self) -> bool
         ensures { result ≡ in_ranges self }
     {
@@ -115,6 +119,7 @@ impl Master {
     }
 
     // What refuses a call that may send: 15, then 14.
+    #[tactic(auto, unfolding(crate::specs::State::call_fault))]
     pub(crate) fn call_check(self, room: usize) -> Check
         ensures { fault_of result ≡ call_fault self room }
     {

@@ -6,6 +6,7 @@ use forms::lines::line_of;
 use records::records::{Record, type_of, values_of};
 
 // Whether T0 is reduced on a line so long as no A has said that the key is in position Operation.
+#[tactic(auto, unfolding(crate::specs::Times::reduces))]
 fn reduces(line: u8) -> bool
     ensures { result ≡ reduces line }
 {
@@ -14,6 +15,7 @@ fn reduces(line: u8) -> bool
 }
 
 // Whether a line allows a flag: where T0 is never reduced, no A says Operation.
+#[tactic(auto, unfolding(crate::specs::Times::operation_fits))]
 pub(crate) fn operation_fits(line: u8, operation: bool) -> bool
     ensures { result ≡ operation_fits line operation }
 {
@@ -21,6 +23,7 @@ pub(crate) fn operation_fits(line: u8, operation: bool) -> bool
 }
 
 // T0's limit on a line, by whether the last A that answered t said Operation.
+#[tactic(auto, unfolding(crate::specs::Times::t0Of))]
 pub(crate) fn t0_of(line: u8, operation: bool) -> u32
     ensures { result ≡ t0Of line operation }
 {
@@ -29,6 +32,7 @@ pub(crate) fn t0_of(line: u8, operation: bool) -> u32
 }
 
 // Whether the key is in position Operation, behind a permitted answer to a type: an A that answers t says it with X, and any other value takes it back.
+#[tactic(auto, unfolding(crate::specs::Times::operation_after))]
 pub(crate) fn operation_after(line: u8, sent: u8, rec: Record, before: bool) -> bool
     ensures { result ≡ operation_after line sent rec before }
 {

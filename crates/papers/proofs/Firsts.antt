@@ -28,7 +28,7 @@ use Rattle.reading.proofs.Walk.{byte-in, byte-out, letter-right, letter-wrong, v
 use Rattle.writing.proofs.RoundTrips.Faults.{needs-held, no-fault}
 use Rattle.papers.specs.Order.{FirstCheck}
 use Rattle.papers.specs.Firsts.{AllInside, FirstOutside, NineFirst, filled_by, letter_place, length_right, letter_right, value_right, EachPacket, FirstPacket, OwnRow, TenFirst, Shaped, ElevenFirst, AcceptedSound}
-use Rattle.papers.proofs.Order.{refused-first, accepted-clean, no_line}
+use Rattle.papers.proofs.Order.{refused-first, accepted-clean, no-line}
 
 -- a walk along n things: it goes on over one that passes the test, stops at one that fails, and finds nothing behind the last
 record Walk (n : ℕ) (test : ℕ → Bool) (place : ℕ → ℕ) : Type 0 where
@@ -207,7 +207,7 @@ first line s k place l h =
     on_test (is_line line)
     (λ e. refused-first line s k place e h)
     (λ e.
-    let q : Answer.refused (no 15 0) ≡ refused (no k place) = sym (no_line line s e) ∙ h in
+    let q : Answer.refused (no 15 0) ≡ refused (no k place) = sym (no-line line s e) ∙ h in
     let r : no 15 0 ≡ no k place = cc in
     let z : 15 ≡ k = ap (λ (x : No). x.number) r in
     absurd (omega arith))

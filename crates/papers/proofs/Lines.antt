@@ -10,12 +10,12 @@ use Rattle.forms.specs.declared.rows.Form.{Form}
 use Rattle.forms.proofs.Found.{found_type, found-line}
 use Rattle.papers.specs.Lines.{Senders, listed_by, paper, SameNumbers, Agrees, Exact, SameLines, NoTwoRows, ExactLines, NoOtherLine}
 
-pub same_numbers : SameNumbers
-same_numbers = refl
+pub same-numbers : SameNumbers
+same-numbers = refl
 
-pub same_lines : SameLines
+pub same-lines : SameLines
 unfolding forms on_line look_in form_of type_row data_type
-same_lines = search
+same-lines = search
 
 pub no-two-rows : NoTwoRows
 unfolding forms on_line
@@ -47,7 +47,7 @@ exact : (l : Senders) → Agrees l → Exact l
 exact l a = record { by-master = masters-exact l a; by-slave = slaves-exact l a }
 
 pub exact-lines : ExactLines
-exact-lines = all_map Agrees Exact exact paper same_lines
+exact-lines = all_map Agrees Exact exact paper same-lines
 
 pub no-other-line : NoOtherLine
 no-other-line line kind letter h = on_test (form_of line kind letter).found (λ f. clash (sym h ∙ found-line line kind letter f)) (λ f. f)

@@ -114,5 +114,5 @@ eight-listed = all_map Exact EightOn eight paper exact-lines
 pub accepted-clean : AcceptedClean
 accepted-clean line s rec n h k = faultless-at (checks line s) (k - 1) (accepted-only line s rec n h).faultless
 
-pub no_line : NoLine
-no_line line s l = sym (contents.no_line line s l)
+pub no-line : NoLine
+no-line line s l = sym (contents.no_line line s l)

@@ -65,7 +65,7 @@ module _ {F : Type 0} where
     acts-sim (MActs.gives {k = k}) (view g l a) w x h i = (then (Step.give_up k) stop, tt)
 
     -- the master hears the answer as it was sent
-    whole-sim : {v v' : MView F} {o : Did F} {g : F} {r : Reading} → MHears nak g r v o v' → (u : DView F) (x : Tel F) (h : Hist F F) → Side read v (back g) x →
+    whole-sim : {v v' : MView F} {g : F} {o : Did F} {r : Reading} → MHears nak g r v o v' → (u : DView F) (x : Tel F) (h : Hist F F) → Side read v (back g) x →
         Steps (st_of (phase nak v (back g) x) u h) (st_of (phase nak v' (line_after o empty) (tel_after o x h)) u (hist_after o x h)) × Side read v' (line_after o empty) (tel_after o x h)
     whole-sim {v = free n} MHears.ignores u x h i = (stop, tt)
     whole-sim {v = waits n f k} MHears.ignores (view g l a) x h i = (then Step.drop stop, (i.0, i.1, tt))
@@ -74,7 +74,7 @@ module _ {F : Type 0} where
     whole-sim (MHears.takes {k = k} e) (view g l a) x h i = (rw e (then (Step.answer k) stop), tt)
 
     -- or as other bytes, which are refused
-    spoilt-sim : {v v' : MView F} {o : Did F} {g : F} {r : Reading} → MHears nak g r v o v' → r ≡ bad → (b : F) (u : DView F) (x : Tel F) (h : Hist F F) → Side read v (back b) x →
+    spoilt-sim : {v v' : MView F} {g : F} {o : Did F} {r : Reading} → MHears nak g r v o v' → r ≡ bad → (b : F) (u : DView F) (x : Tel F) (h : Hist F F) → Side read v (back b) x →
         Steps (st_of (phase nak v (back b) x) u h) (st_of (phase nak v' (line_after o empty) (tel_after o x h)) u (hist_after o x h)) × Side read v' (line_after o empty) (tel_after o x h)
     spoilt-sim {v = free n} MHears.ignores q b u x h i = (stop, tt)
     spoilt-sim {v = waits n f k} MHears.ignores q b (view g l a) x h i = (then Step.drop stop, (i.0, i.1, tt))
@@ -87,7 +87,7 @@ module _ {F : Type 0} where
     first-sim First.loses p h = then Step.note stop
 
     -- the desk hears the sending that was made
-    dwhole-sim : {u v : DView F} {q : Said F} {n : Bool} {f : F} → DHears nak Q f (frame n) u q v → (x : Tel F) (h : Hist F F) → f ≡ x.1 →
+    dwhole-sim : {u v : DView F} {f : F} {q : Said F} {n : Bool} → DHears nak Q f (frame n) u q v → (x : Tel F) (h : Hist F F) → f ≡ x.1 →
         Steps (st_of (busy n x going) u h) (st_of (busy n x (way nak (line_said q))) v (hist_said q x h))
     dwhole-sim {u = view g l a} DHears.mute x h e = then Step.lose stop
     dwhole-sim (DHears.faults {f = f} k) x h e = rw k (then (Step.fault f) stop)
@@ -95,7 +95,7 @@ module _ {F : Type 0} where
     dwhole-sim (DHears.takes {f = b} k p) x h e = rw e (then (Step.handle b k) (back_some (nak b)))
 
     -- or other bytes, which are refused
-    dspoilt-sim : {u v : DView F} {q : Said F} {g : F} {r : Reading} → DHears nak Q g r u q v → r ≡ bad → (n : Bool) (x : Tel F) (h : Hist F F) →
+    dspoilt-sim : {u v : DView F} {g : F} {q : Said F} {r : Reading} → DHears nak Q g r u q v → r ≡ bad → (n : Bool) (x : Tel F) (h : Hist F F) →
         Steps (st_of (busy n x going) u h) (st_of (busy n x (way nak (line_said q))) v (hist_said q x h))
     dspoilt-sim {u = view g l a} DHears.mute e n x h = then Step.lose stop
     dspoilt-sim (DHears.faults {f = f} k) e n x h = rw k (then (Step.fault f) stop)

@@ -94,7 +94,7 @@ module _ {F : Type 0} (nak : F → Bool) (P Q : F → Type 0) where
       record { reported = (i.tallied.0, i.reported); spoken = i.spoken; below = i.below; tallied = tt; stocked = i.stocked; bears = tt }
 
   -- the master hears g
-  pub tidy-hears : {v v' : MView F} {o : Did F} {g : F} {r : Reading} → MHears nak g r v o v' → (u : DView F) (w : Line F) (x : Tel F) (h : Hist F F) →
+  pub tidy-hears : {v v' : MView F} {g : F} {o : Did F} {r : Reading} → MHears nak g r v o v' → (u : DView F) (w : Line F) (x : Tel F) (h : Hist F F) →
       (Heeded r → nak g ≡ false → Q g) → Tidy v u w x h → Tidy v' u (line_after o empty) (tel_after o x h) (hist_after o x h)
   tidy-hears MHears.ignores u w x h q i =
       record { reported = i.reported; spoken = i.spoken; below = i.below; tallied = i.tallied; stocked = i.stocked; bears = tt }
@@ -134,7 +134,7 @@ module _ {F : Type 0} (nak : F → Bool) (P Q : F → Type 0) where
       record { reported = i.reported; spoken = i.spoken; below = i.below; tallied = i.tallied; stocked = i.stocked; bears = tt }
 
   -- the desk hears g
-  pub tidy-dhears : {u u' : DView F} {q : Said F} {g : F} {r : Reading} → DHears nak Q g r u q u' → (v : MView F) (w : Line F) (x : Tel F) (h : Hist F F) → Tidy v u w x h →
+  pub tidy-dhears : {u u' : DView F} {g : F} {q : Said F} {r : Reading} → DHears nak Q g r u q u' → (v : MView F) (w : Line F) (x : Tel F) (h : Hist F F) → Tidy v u w x h →
       Tidy v u' (line_said q) x (hist_said q x h)
   tidy-dhears {u = u} DHears.mute v w x h i = tidy-over v u w x h i
   tidy-dhears (DHears.faults k) v w x h i =

@@ -21,24 +21,24 @@ pub(crate) fn blank() -> Ends {
 }
 
 // Writes what a row prints.
-fn write(out: &[u8], n: usize) {
-    write_out(out, n, b"scenes: writing");
+fn write(rt: HostRuntime, out: &[u8], n: usize) {
+    write_out(rt, out, n, b"scenes: writing");
 }
 
-fn desk_row(ends: Ends, row: &[u8], out: &mut [u8]) -> Ends {
+fn desk_row(rt: HostRuntime, ends: Ends, row: &[u8], out: &mut [u8]) -> Ends {
     let before = ends.desk;
     let master = ends.master;
     let printed = scripts::desks::behind::on_row(before, row, out);
-    write(out, printed.length);
+    write(rt, out, printed.length);
     let desk = printed.desk;
     Ends { desk, master }
 }
 
-fn master_row(ends: Ends, row: &[u8], out: &mut [u8]) -> Ends {
+fn master_row(rt: HostRuntime, ends: Ends, row: &[u8], out: &mut [u8]) -> Ends {
     let desk = ends.desk;
     let before = ends.master;
     let printed = scripts::masters::behind::on_row(before, row, out);
-    write(out, printed.length);
+    write(rt, out, printed.length);
     let master = printed.master;
     Ends { desk, master }
 }
@@ -53,14 +53,14 @@ fn other_row(kind: Kind, row: &[u8], out: &mut [u8]) -> usize {
 }
 
 // Both ends behind a row, whose text is written.
-pub(crate) fn on_row(ends: Ends, row: &[u8], out: &mut [u8]) -> Ends {
+pub(crate) fn on_row(rt: HostRuntime, ends: Ends, row: &[u8], out: &mut [u8]) -> Ends {
     let kind = kind_of(row);
     match kind {
-        Kind::Desk => return desk_row(ends, row, out),
-        Kind::Master => return master_row(ends, row, out),
+        Kind::Desk => return desk_row(rt, ends, row, out),
+        Kind::Master => return master_row(rt, ends, row, out),
         _ => {}
     }
     let n = other_row(kind, row, out);
-    write(out, n);
+    write(rt, out, n);
     ends
 }

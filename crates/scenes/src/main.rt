@@ -13,18 +13,19 @@
 // A RECORD is a type and its values as decimal numbers, B 125 90 120 88. A FRAME is bytes: < for LF, > for CR, =HH for the byte HH hex.
 // An empty row and one that begins with # are only said again; any other row that names no call is said to be none.
 #![tactic(auto)]
+
 mod ends;
 mod script;
 
 use stdio::input::called_alone;
 
 // What a row prints has room: it is said again, 1,024 bytes and LF, and an answer has under 1,500.
-fn main() {
-    if !called_alone(b"usage: scenes < SCRIPT\n") {
+fn main(rt: HostRuntime) {
+    if !called_alone(rt, b"usage: scenes < SCRIPT\n") {
         return;
     }
     let mut buf = [0u8; 65536];
     let mut row = [0u8; 1024];
     let mut out = [0u8; 4096];
-    script::run(&mut buf, &mut row, &mut out);
+    script::run(rt, &mut buf, &mut row, &mut out);
 }

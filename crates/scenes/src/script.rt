@@ -43,20 +43,20 @@ fn refilled(input: Input, n: usize) -> Input {
 }
 
 // Reads a piece; 0 where there is none left, or where the read fails.
-fn read_piece(buf: &mut [u8]) -> usize {
-    let Got::Bytes(got) = read_more(buf, 0, b"scenes: reading") else {
+fn read_piece(rt: HostRuntime, buf: &mut [u8]) -> usize {
+    let Got::Bytes(got) = read_more(rt, buf, 0, b"scenes: reading") else {
         return 0;
     };
     got
 }
 
 // A byte more of the row, or a piece more of the input.
-fn step(input: Input, buf: &mut [u8], row: &mut [u8]) -> Input {
+fn step(rt: HostRuntime, input: Input, buf: &mut [u8], row: &mut [u8]) -> Input {
     let at = input.at;
     if at < input.end {
         return taken(input, row, byte_at(buf, at));
     }
-    refilled(input, read_piece(buf))
+    refilled(input, read_piece(rt, buf))
 }
 
 // Whether a row is being read.
@@ -65,19 +65,19 @@ fn open(input: Input) -> bool {
 }
 
 // The next row, whole where there is one. A proved loop has to end, so it counts its turns down, from a number that no run uses up.
-fn next_row(input: Input, buf: &mut [u8], row: &mut [u8]) -> Input {
+fn next_row(rt: HostRuntime, input: Input, buf: &mut [u8], row: &mut [u8]) -> Input {
     let mut next = input;
     next.filled = 0;
     next.whole = false;
     let mut turns = u64::MAX;
     while turns > 0 && open(next) {
-        next = step(next, buf, row);
+        next = step(rt, next, buf, row);
         turns = turns - 1;
     }
     next
 }
 
-fn first_row(buf: &mut [u8], row: &mut [u8]) -> Input {
+fn first_row(rt: HostRuntime, buf: &mut [u8], row: &mut [u8]) -> Input {
     let input = Input {
         at: 0,
         end: 0,
@@ -85,17 +85,17 @@ fn first_row(buf: &mut [u8], row: &mut [u8]) -> Input {
         whole: false,
         more: true,
     };
-    next_row(input, buf, row)
+    next_row(rt, input, buf, row)
 }
 
 // Row after row.
-pub(crate) fn run(buf: &mut [u8], row: &mut [u8], out: &mut [u8]) {
+pub(crate) fn run(rt: HostRuntime, buf: &mut [u8], row: &mut [u8], out: &mut [u8]) {
     let mut both = ends::blank();
     let mut turns = u64::MAX;
-    let mut input = first_row(buf, row);
+    let mut input = first_row(rt, buf, row);
     while turns > 0 && input.whole {
-        both = ends::on_row(both, part(row, 0, input.filled), out);
-        input = next_row(input, buf, row);
+        both = ends::on_row(rt, both, part(row, 0, input.filled), out);
+        input = next_row(rt, input, buf, row);
         turns = turns - 1;
     }
 }

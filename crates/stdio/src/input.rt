@@ -2,8 +2,9 @@
 ghost use Rattle.stdio.specs.Input.{Reads};
 
 use crate::output::complain;
-use crate::trouble::try_again;
-use libc::STDIN_FILENO;
+use crate::trouble::{fail, try_again};
+use std::env::Env;
+use std::io::Read;
 
 // So many bytes were got, none at the end of the input; or the read failed, and standard error says so.
 #[derive(Clone, Copy)]
@@ -14,23 +15,26 @@ pub enum Got {
 
 // Reads into a buffer from a place on, and says trouble after the words that name the program. A proved loop has to end, so it counts its turns down, from a
 // number that no run uses up.
-pub fn read_more(buf: &mut [u8], from: usize, name: &[u8]) -> Got
+pub fn read_more(rt: HostRuntime, buf: &mut [u8], from: usize, name: &[u8]) -> Got
     ensures { Reads result from buf.old buf.new }
 {
     if buf.len() <= from {
-        complain(name);
-        complain(b": no room\n");
+        complain(rt, name);
+        complain(rt, b": no room\n");
         return Got::Failed;
     }
+    let mut input = rt.stdin();
     let mut turns = u64::MAX;
     while turns > 0 {
-        let got = libc::read(STDIN_FILENO, &mut buf[from..]);
-        if got >= 0 {
-            return Got::Bytes(io::count(got, &buf[from..]));
-        }
-        if !try_again() {
-            os::fail(name);
-            return Got::Failed;
+        let got = input.read(&mut buf[from..]);
+        match got {
+            Ok(count) => return Got::Bytes(count),
+            Err(error) => {
+                if !try_again(rt, error) {
+                    fail(rt, name, error);
+                    return Got::Failed;
+                }
+            }
         }
         turns = turns - 1;
     }
@@ -38,7 +42,7 @@ pub fn read_more(buf: &mut [u8], from: usize, name: &[u8]) -> Got
 }
 
 // Reads until the buffer is full or the input ends: how many bytes stand in its front.
-pub fn read_full(buf: &mut [u8], name: &[u8]) -> Got
+pub fn read_full(rt: HostRuntime, buf: &mut [u8], name: &[u8]) -> Got
     ensures { Reads result 0 buf.old buf.new }
 {
     let mut n: usize = 0;
@@ -47,7 +51,7 @@ pub fn read_full(buf: &mut [u8], name: &[u8]) -> Got
         if buf.len() <= n {
             return Got::Bytes(n);
         }
-        let Got::Bytes(got) = read_more(buf, n, name) else {
+        let Got::Bytes(got) = read_more(rt, buf, n, name) else {
             return Got::Failed;
         };
         if got == 0 {
@@ -60,10 +64,13 @@ pub fn read_full(buf: &mut [u8], name: &[u8]) -> Got
 }
 
 // Whether the program was started without an argument, as all of ours are; else it says on standard error how it is called.
-pub fn called_alone(usage: &[u8]) -> bool {
-    if os::arg_count() <= 1 {
-        return true;
+pub fn called_alone(rt: HostRuntime, usage: &[u8]) -> bool {
+    let mut word = [0u8; 1];
+    match rt.arg(1, &mut word) {
+        Err(std::env::FillError::NotPresent) => true,
+        _ => {
+            complain(rt, usage);
+            false
+        }
     }
-    complain(usage);
-    false
 }

@@ -1,15 +1,32 @@
-// What to do where a call of C fails.
-use libc::{EAGAIN, EINTR};
+// What to do where a read or a write fails.
+use crate::output::complain;
+use std::io::{Error, ErrorKind};
+use std::thread;
+use std::time::Duration;
 
-// Whether a call that has just failed is to be made again: a signal came between, or the other end is not ready and gets its turn first.
-pub(crate) fn try_again() -> bool {
-    let error = os::errno();
-    if error == EINTR {
-        return true;
+// Whether what has just failed is to be done again: a signal came between, or the other end is not ready and gets its turn first.
+pub(crate) fn try_again(rt: HostRuntime, error: Error) -> bool {
+    match error.kind() {
+        ErrorKind::Interrupted => true,
+        ErrorKind::WouldBlock => {
+            thread::sleep(&rt, Duration::from_millis(1));
+            true
+        }
+        _ => false,
     }
-    if error == EAGAIN {
-        libc::sched_yield();
-        return true;
+}
+
+// Says on standard error what failed, and the system's words for why, without its number.
+pub(crate) fn fail(rt: HostRuntime, name: &[u8], error: Error) {
+    complain(rt, name);
+    match format!(in rt.alloc(); ": {error}") {
+        Ok(text) => {
+            match text.as_str().split_once(" (os error ") {
+                Some((words, _)) => complain(rt, words.as_bytes()),
+                None => complain(rt, text.as_bytes()),
+            }
+        }
+        Err(_) => complain(rt, b": out of memory"),
     }
-    false
+    complain(rt, b"\n");
 }

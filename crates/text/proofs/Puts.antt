@@ -1,5 +1,6 @@
 -- Texts put into an output one behind the other. Assumes nothing.
-use Rattle.std.proofs.Common.{◌≡◌, ℕ, suc, ◌+◌, ◌-◌, ◌<◌, ◌≤◌, List, [], ◌∷◌, ◌++◌, length, get_or, take, drop, set, sym, refl, ap, ◌∙◌, append_assoc, append-nil, add-zero, add-suc, suc-add, zero-add, add-one, arith, length-append, length-drop, length-set, take-append-drop, drop_of_length-le, length-take, length-take-le, take_all, drop-cons, drop-drop, take-suc-set, take_at, drop-set-lt, drop_at, le-ltb, lt-ltb}
+use Rattle.std.proofs.Common.{◌≡◌, ℕ, suc, ◌+◌, ◌-◌, ◌<◌, ◌≤◌, List, [], ◌∷◌, ◌++◌, length, get_or, take, drop, set, sym, refl, ap, ◌∙◌, append_assoc, append-nil}
+use Rattle.std.proofs.Common.{add-zero, add-suc, suc-add, zero-add, add-one, arith, length-append, length-drop, length-set, take-append-drop, drop_of_length-le, length-take, length-take-le, take_all, drop-cons, drop-drop, take-suc-set, take_at, drop-set-lt, drop_at, le-ltb, lt-ltb}
 use Rattle.laws.proofs.Passes.{order}
 use Rattle.text.specs.Putting.{puts, placed}
 

@@ -1,5 +1,6 @@
 -- Fields by the places where they begin and end, and texts byte by byte. Assumes nothing.
-use Rattle.std.proofs.Common.{◌≡◌, ℕ, suc, ◌+◌, ◌-◌, ◌<◌, ◌≤◌, Bool, true, false, eqb, List, [], ◌∷◌, length, get_or, take, drop, sym, refl, ap, ◌∙◌, ap₂, add-one, arith, length-drop, drop_of_length-le, take_all, drop-cons, drop-drop, eq-eqb, ne_eqb, eqb-true}
+use Rattle.std.proofs.Common.{◌≡◌, ℕ, suc, ◌+◌, ◌-◌, ◌<◌, ◌≤◌, Bool, true, false, eqb, List, [], ◌∷◌, length, get_or}
+use Rattle.std.proofs.Common.{take, drop, sym, refl, ap, ◌∙◌, ap₂, add-one, arith, length-drop, drop_of_length-le, take_all, drop-cons, drop-drop, eq-eqb, ne_eqb, eqb-true}
 use Rattle.laws.specs.Truth.{both}
 use Rattle.laws.proofs.Truths.{clash, both_left, both_right}
 use Rattle.laws.proofs.Passes.{on_test}

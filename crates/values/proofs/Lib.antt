@@ -1,4 +1,3 @@
-pub mod Permitted
 pub mod Digits
 pub mod Texts
 pub mod Spelt

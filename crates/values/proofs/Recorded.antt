@@ -14,18 +14,9 @@ pub record-looked : (line : ℕ) (rec : Record) (k letter : ℕ) (looked : Looke
 record-looked line rec k letter looked e l f = f ∙ ap (λ (x : ℕ). form_of line x letter) e ∙ ap (λ (x : ℕ). form_of line (type_of rec) x) l
 
 module _ (line : ℕ) (rec : Record) (looked : Looked) (row : looked ≡ row_of line rec) where
-  -- its type is not on the line
-  pub length_none : looked.found ≡ false → 0 ≡ length_of line rec
-  unfolding length_of
-  length_none h = subst (λ (l : Looked). 0 ≡ cond l.found (8 + width_of l.form) 0) row (rw h)
-
   pub length-row : looked.found ≡ true → 8 + width_of looked.form ≡ length_of line rec
   unfolding length_of
   length-row h = subst (λ (l : Looked). 8 + width_of looked.form ≡ cond l.found (8 + width_of l.form) 0) row (rw h)
-
-  pub record-none : looked.found ≡ false → false ≡ permits_record line rec
-  unfolding permits_record
-  record-none h = subst (λ (l : Looked). false ≡ cond l.found (permits_values line (type_of rec) (slots_of l.form) (values_of rec)) false) row (rw h)
 
   pub record-row : (k : ℕ) (vs : List ℕ) → k ≡ type_of rec → vs ≡ values_of rec → looked.found ≡ true → permits_values line k (slots_of looked.form) vs ≡ permits_record line rec
   unfolding permits_record

@@ -34,10 +34,6 @@ pub packet-first : (l : List ℕ) (letter n : ℕ) → (length l ≡ 0 → ⊥) 
 packet-first [] letter n h = let z : ⊥ = h refl in absurd z
 packet-first (a ∷ l) letter n h = let k : suc (length l) - 1 ≡ length l = omega arith in rw k
 
-pub packet-none : (l : List ℕ) (letter n : ℕ) → length l ≡ 0 → l ≡ packet_text letter (length l) n
-packet-none [] letter n h = refl
-packet-none (a ∷ l) letter n h = let z : ⊥ = omega arith in absurd z
-
 module _ (letter lead : ℕ) (decimal : Bool) (n : ℕ) (e : lead ≡ lead_of letter) (f : decimal ≡ is_decimal letter) where
   -- a value with no lead
   pub text-plain : (w : ℕ) → lead ≡ 0 → numeral decimal w n ≡ text_of letter w n

@@ -3,6 +3,7 @@ ghost use Rattle.std.specs.Prelude.{◌≡◌};
 ghost use Rattle.values.specs.PacketNumbers.{lead_of, is_decimal, ruled, permits_number};
 
 // The fixed character that a value begins with, 0 where it has none: F's C, the colon of M and V.
+#[tactic(auto, unfolding(crate::specs::PacketNumbers::lead_of))]
 pub fn lead_of(letter: u8) -> u8
     ensures { result ≡ lead_of letter }
 {
@@ -15,6 +16,7 @@ pub fn lead_of(letter: u8) -> u8
 }
 
 // Whether a value's characters are the decimal digits of its number; else each is a digit of base 256.
+#[tactic(auto, unfolding(crate::specs::PacketNumbers::is_decimal))]
 pub fn is_decimal(letter: u8) -> bool
     ensures { result ≡ is_decimal letter }
 {
@@ -28,6 +30,7 @@ pub fn is_decimal(letter: u8) -> bool
 }
 
 // Whether there is a rule for the number of a packet's value.
+#[tactic(auto, unfolding(crate::specs::PacketNumbers::ruled))]
 pub(crate) fn is_ruled(line: u8, letter: u8) -> bool
     ensures { result ≡ ruled line letter }
 {
@@ -35,6 +38,7 @@ pub(crate) fn is_ruled(line: u8, letter: u8) -> bool
 }
 
 // Whether the number of a packet's value is permitted.
+#[tactic(auto, unfolding(crate::specs::PacketNumbers::permits_number))]
 pub(crate) fn permits_number(line: u8, letter: u8, n: u32) -> bool
     ensures { result ≡ permits_number line letter n }
 {

@@ -17,6 +17,7 @@ fn is_digit(b: u8) -> bool
 
 // Whether the byte at a place of a value is permitted: by line, telegram type and packet letter.
 // Letters that follow each other in the alphabet, as C and D, stand in different arms, since one arm would test them as a range.
+#[tactic(auto, unfolding(crate::specs::Packets::permits))]
 pub(crate) fn permits_byte(line: u8, kind: u8, letter: u8, at: usize, b: u8) -> bool
     ensures { result ≡ permits line kind letter at b }
 {

@@ -14,6 +14,7 @@ use forms::table::{count_of, form_of, width_of};
 use records::records::{Record, letter_of, type_of, values_of};
 
 // How many characters of a value of w are its number's.
+#[tactic(auto, unfolding(crate::specs::Values::number_width))]
 fn number_width(letter: u8, w: usize) -> usize
     ensures { result ≡ number_width letter w }
 {
@@ -52,6 +53,7 @@ pub fn put_packet(part: &mut [u8], letter: u8, n: u32)
 }
 
 // Whether a value of w characters is a number of 32 bits.
+#[tactic(auto, unfolding(crate::specs::Values::narrow))]
 pub fn is_narrow(letter: u8, w: usize) -> bool
     ensures { result ≡ narrow letter w }
 {
@@ -62,6 +64,7 @@ pub fn is_narrow(letter: u8, w: usize) -> bool
 }
 
 // The number that the characters of a packet's value say, 0 where it is none of 32 bits.
+#[tactic(auto, unfolding(crate::specs::Values::value_of))]
 pub fn value_of(letter: u8, text: &[u8]) -> u32
     ensures { result ≡ value_of letter text.now }
 {
@@ -75,6 +78,7 @@ pub fn value_of(letter: u8, text: &[u8]) -> u32
 }
 
 // Whether a packet has no rule for its value's number, or the number of w characters passes it.
+#[tactic(auto, unfolding(crate::specs::Values::number_fits))]
 fn number_fits(line: u8, letter: u8, w: usize, n: u32) -> bool
     ensures { result ≡ number_fits line letter w n }
 {
@@ -103,6 +107,7 @@ fn permits_bytes(line: u8, kind: u8, letter: u8, text: &[u8]) -> bool
 }
 
 // Whether the characters of a packet's value are permitted; their number is asked for only where there is a rule for it.
+#[tactic(auto, unfolding(crate::specs::Values::permitted, crate::specs::Values::number_fits))]
 pub fn permits_text(line: u8, kind: u8, letter: u8, text: &[u8]) -> bool
     ensures { result ≡ permitted line kind letter text.now }
 {
@@ -152,6 +157,7 @@ fn permits_spelt(line: u8, kind: u8, letter: u8, w: usize, n: u32) -> bool
 }
 
 // Whether a number is permitted as a packet's value of so many characters.
+#[tactic(auto, unfolding(crate::specs::Values::permits_value))]
 pub(crate) fn permits_value(line: u8, kind: u8, letter: u8, len: u8, n: u32) -> bool
     ensures { result ≡ permits_value line kind letter len n }
 {
@@ -166,6 +172,7 @@ pub(crate) fn permits_value(line: u8, kind: u8, letter: u8, len: u8, n: u32) -> 
 }
 
 // Whether a record is permitted on a line.
+#[tactic(auto, unfolding(crate::specs::Values::permits_record))]
 pub fn permits_record(line: u8, rec: Record) -> bool
     ensures { result ≡ permits_record line rec }
 {
@@ -196,6 +203,7 @@ pub fn permits_values(line: u8, kind: u8, form: Form, values: [u32; 10]) -> bool
 }
 
 // The length of a record's telegram, 0 where its type is not on the line.
+#[tactic(auto, unfolding(crate::specs::Values::length_of))]
 pub(crate) fn length_of(line: u8, rec: Record) -> usize
     ensures { result ≡ length_of line rec }
 {

@@ -23,7 +23,7 @@ use Rattle.desk.specs.Deciding as r
 use Rattle.desk.proofs.Rulings.{bad_sum, bad-sum-byte, bad-low, when-refused}
 use Rattle.desk.proofs.Numbers.{ruling-number}
 use Rattle.desk.proofs.Permitted.{fault-permitted}
-use Rattle.desk.specs.Heard.{silent, fault}
+use Rattle.desk.specs.Heard.{fault}
 use Rattle.desk.specs.Panel.{loses_line}
 use Rattle.desk.specs.Hearing.{faulted_of, applied_of, ruling, hear_of}
 use Rattle.desk.specs.declared.state.Desk.{Desk}

@@ -16,12 +16,11 @@ use Rattle.writing.specs.Writing.{telegram_of}
 use Rattle.writing.proofs.Trips.{written-reads}
 use Rattle.desk.specs.Deciding.{What, request, poll, other}
 use Rattle.desk.specs.Deciding as r
-use Rattle.desk.specs.Replying.{requested, queue, key, contents, not_master, asked_of}
+use Rattle.desk.specs.Replying.{queue, key, asked_of}
 use Rattle.desk.specs.declared.replying.Wanted.{Wanted}
 use Rattle.desk.specs.declared.replying.Wanted.TheVariants.{None, Is}
 use Rattle.records.specs.Refusals.{No}
 use Rattle.desk.specs.Answers.{Done, done, lost}
-use Rattle.desk.specs.Heard.{handled}
 use Rattle.desk.specs.State.{start_of}
 use Rattle.desk.specs.Panel.{loses_line, noted_of, with_queued}
 use Rattle.desk.specs.Clearing.{clear_queue_of}

@@ -95,9 +95,9 @@ repeat-told d f at frame out n e =
     let h = ap (λ (x : Hearing). x.1) (hear-room d at frame out f.ranged (leb-false longest (length out) b)) in
     never (cc))
 
-pub read_again : ReadAgain
+pub read-again : ReadAgain
 unfolding noted_of
-read_again d at frame rec q g l =
+read-again d at frame rec q g l =
     rw l
     (sym (good-repeat d.good d.last.0 d.last.0 (matter_in d.line rec) (same_number d.good d.last.0 g)
     ∙ when-accepted d.line d.good d.last.0 frame rec d.last.0 (sym q)))

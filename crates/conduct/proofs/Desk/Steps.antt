@@ -93,9 +93,9 @@ module _ (d : Desk) (h : in_ranges d ≡ true) (key : ℕ) where
       go true false p h e q = other-number 12 x e (λ z. omega arith) q
       go false l p h e q = never (cc)
 
-  key_fits : key_fault d key ≡ good → key_fits d.line key ≡ true
+  key-fits : key_fault d key ≡ good → key_fits d.line key ≡ true
   unfolding key_fault key_fits
-  key_fits e = go (in_ranges d) (line_of d.line).keyed (is_key key) e
+  key-fits e = go (in_ranges d) (line_of d.line).keyed (is_key key) e
     where
       go : (r l p : Bool) → cond r (cond l (cond p good (fails (no 13 0))) (fails (no 12 0))) (fails (no 15 0)) ≡ good → cond l p (eqb key (code "A")) ≡ true
       go true true true e = refl
@@ -133,7 +133,7 @@ module _ (d : Desk) (h : in_ranges d ≡ true) where
   does (turns key) =
       guard (Does d (turns key)) d _ (key_fault d key)
       (λ x e. barred (key-number d h key x e))
-      (λ e. turned (key_fits d h key e))
+      (λ e. turned (key-fits d h key e))
   does clears_queue = rw h emptied
   does clears_set = rw h unset
   does (hears at frame out) =

@@ -11,7 +11,7 @@ use Rattle.desk.proofs.Calls.{tick-lost, tick-done}
 use Rattle.conduct.specs.Times.{clock_after}
 use Rattle.conduct.specs.Desk.Timed.{TicksBeforeT1, HearsBeforeT1, TicksFromT1, HearsFromT1, TicksLost, TicksAt27999, TicksAt28000, HearsAt27999, HearsAt28000}
 use Rattle.conduct.proofs.Times.{still-runs, has-run-out}
-use Rattle.conduct.proofs.Desk.Repeats.{read_again}
+use Rattle.conduct.proofs.Desk.Repeats.{read-again}
 
 -- so long after T1's start, on a good line
 module _ (d : Desk) (good : d.good ≡ true) (start : d.t1 < 2 ^ 32) (ms : ℕ) where
@@ -27,7 +27,7 @@ pub ticks-before-t1 : TicksBeforeT1
 ticks-before-t1 ms h d f good start = sym (tick-done d _ f.ranged (keeps_line d good start ms h) d (unfold noted_of in refl))
 
 pub hears-before-t1 : HearsBeforeT1
-hears-before-t1 ms h d f good start frame rec r = read_again d _ frame rec r good (keeps_line d good start ms h)
+hears-before-t1 ms h d f good start frame rec r = read-again d _ frame rec r good (keeps_line d good start ms h)
 
 pub ticks-from-t1 : TicksFromT1
 ticks-from-t1 ms h k d f good start = sym (tick-lost d _ f.ranged (loses-line d good start ms h k) (with_good d false) (unfold noted_of in refl))

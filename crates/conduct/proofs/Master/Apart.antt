@@ -82,17 +82,17 @@ answer_back (other_kind reading count) = a.TheVariants.OtherKind (reading_back r
 answer_back (given_up ground count) = a.TheVariants.GivenUp (cause_back ground) count
 answer_back (ignored why) = a.TheVariants.Ignored (reason_back why)
 
-answer_back : (x : a.Answer) → answer_back (told_of x) ≡ x
-answer_back (a.TheVariants.Refused x) = ap a.TheVariants.Refused (refusal-back x)
-answer_back a.TheVariants.Nothing = refl
-answer_back (a.TheVariants.Sent sending count bytes) = rw (sending-back sending)
-answer_back (a.TheVariants.Answered rec count) = refl
-answer_back (a.TheVariants.OtherKind reading count) = rw (reading-back reading)
-answer_back (a.TheVariants.GivenUp cause count) = rw (cause-back cause)
-answer_back (a.TheVariants.Ignored why) = rw (reason-back why)
+answer-back : (x : a.Answer) → answer_back (told_of x) ≡ x
+answer-back (a.TheVariants.Refused x) = ap a.TheVariants.Refused (refusal-back x)
+answer-back a.TheVariants.Nothing = refl
+answer-back (a.TheVariants.Sent sending count bytes) = rw (sending-back sending)
+answer-back (a.TheVariants.Answered rec count) = refl
+answer-back (a.TheVariants.OtherKind reading count) = rw (reading-back reading)
+answer-back (a.TheVariants.GivenUp cause count) = rw (cause-back cause)
+answer-back (a.TheVariants.Ignored why) = rw (reason-back why)
 
 pub one-verdict : OneVerdict
 one-verdict x y e = sym (verdict-back x) ∙ ap verdict_back e ∙ verdict-back y
 
-pub one_answer : OneAnswer
-one_answer x y e = sym (answer_back x) ∙ ap answer_back e ∙ answer_back y
+pub one-answer : OneAnswer
+one-answer x y e = sym (answer-back x) ∙ ap answer_back e ∙ answer-back y

@@ -66,5 +66,5 @@ all-sent held m h k (call ∷ calls) =
     let s = step m held k call (after m call) (does m h call) in
     (s.0, all-sent (last_sent held (after m call).1.0 (after m call).1.1) (after m call).0 (keeps m h call) s.1 calls)
 
-pub same_bytes : SameBytes
-same_bytes line at h calls = all-sent [] (started line at) (start-ranged line at h) (λ q. clash (sym q)) calls
+pub same-bytes : SameBytes
+same-bytes line at h calls = all-sent [] (started line at) (start-ranged line at h) (λ q. clash (sym q)) calls

@@ -20,7 +20,7 @@ tally n nothing = n
 tally n (sent which count bytes) = one_more n which
 tally n (answered rec count) = n
 tally n (other_kind answer count) = n
-tally n (given_up ground count) = n
+tally n (given_up cause count) = n
 tally n (ignored why) = n
 
 -- a count that is reported equals a number, which is 1 to 3
@@ -34,7 +34,7 @@ Reports nothing n = Unit {0}
 Reports (sent which count bytes) n = Equals count n
 Reports (answered rec count) n = Equals count n
 Reports (other_kind answer count) n = Equals count n
-Reports (given_up ground count) n = Equals count n
+Reports (given_up cause count) n = Equals count n
 Reports (ignored why) n = Unit {0}
 
 -- each answer of a run of calls reports the sendings made, of which n were made before it

@@ -16,8 +16,8 @@ pub record Freed (m : Master) (number : ℕ) (g : Bool) : Type 0 where
 -- after a giving up the master is free with number 0, three sendings were made, and the line is lost by silence and good by N
 abbrev pub AfterGivingUp : Type 0
 AfterGivingUp =
-    (m : Master) → in_ranges m ≡ true → (call : Call) (ground : Ground) (n : ℕ) → (after m call).1.0 ≡ given_up ground n
-    → (n ≡ 3) × Freed (after m call).0 0 (line_after ground)
+    (m : Master) → in_ranges m ≡ true → (call : Call) (cause : Ground) (n : ℕ) → (after m call).1.0 ≡ given_up cause n
+    → (n ≡ 3) × Freed (after m call).0 0 (line_after cause)
 
 -- an answer of another kind ends the telegram: the master is free, the number changes and the line is good
 abbrev pub AfterOtherKind : Type 0

@@ -45,7 +45,7 @@ sent_type line before call nothing = before
 sent_type line before call (sent which count bytes) = type_by before which (first_type line call)
 sent_type line before call (answered rec count) = before
 sent_type line before call (other_kind answer count) = before
-sent_type line before call (given_up ground count) = before
+sent_type line before call (given_up cause count) = before
 sent_type line before call (ignored why) = before
 
 -- the key position that an answer to this type tells: the value of an A that answers t; no other answer tells one
@@ -55,7 +55,7 @@ position_in kind nothing = []
 position_in kind (sent which count bytes) = []
 position_in kind (answered rec count) = cond (both (eqb kind (code "t")) (eqb (type_of rec) (code "A"))) (get_or (values_of rec) 0 0 ∷ []) []
 position_in kind (other_kind answer count) = []
-position_in kind (given_up ground count) = []
+position_in kind (given_up cause count) = []
 position_in kind (ignored why) = []
 
 -- the key positions that were told, the oldest first; the line, and the type that was sent last before

@@ -24,7 +24,7 @@ Leaves held m call nothing new = new ≡ output_of call
 Leaves held m call (sent which count n) new = Right held m call which (take n new) × (drop n new ≡ drop n (output_of call))
 Leaves held m call (answered rec count) new = new ≡ output_of call
 Leaves held m call (other_kind answer count) new = new ≡ output_of call
-Leaves held m call (given_up ground count) new = new ≡ output_of call
+Leaves held m call (given_up cause count) new = new ≡ output_of call
 Leaves held m call (ignored why) new = new ≡ output_of call
 
 -- the bytes of the last sending, behind one more answer
@@ -34,7 +34,7 @@ last_sent held nothing new = held
 last_sent held (sent which count n) new = take n new
 last_sent held (answered rec count) new = held
 last_sent held (other_kind answer count) new = held
-last_sent held (given_up ground count) new = held
+last_sent held (given_up cause count) new = held
 last_sent held (ignored why) new = held
 
 -- each call of a run leaves that in its output

@@ -1,5 +1,5 @@
 -- One more byte is added, and at the end all are. Assumes nothing.
-use Rattle.std.proofs.Common.{◌≡◌, ℕ, ◌+◌, ◌%◌, ◌<◌, List, length, drop, get_or, add-one, drop-cons, arith}
+use Rattle.std.proofs.Common.{◌≡◌, ℕ, ◌+◌, ◌<◌, List, length, drop, get_or, add-one, drop-cons, arith}
 use Rattle.std.proofs.Math.Seq.{drop-length}
 use Rattle.characters.specs.Checksum.{total, checksum_of}
 use Rattle.characters.proofs.checksum.checksum.Goals as goal

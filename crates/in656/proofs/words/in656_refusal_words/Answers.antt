@@ -1,0 +1,9 @@
+-- `in656_refusal_words` puts the words that its table holds. Assumes nothing.
+use Rattle.std.proofs.Common.{refl}
+use Rattle.in656.specs.Words.{refusal_table, refusal_words}
+use Rattle.in656.proofs.Tables.{between, behind, worded-by}
+use Rattle.in656.proofs.words.in656_refusal_words.Goals as goal
+
+pub returns : goal.returns
+unfolding refusal_words between behind
+returns c = worded-by refusal_table _ _ _ _ _ _ refl c.put_words.ensures c.words_in.ensures

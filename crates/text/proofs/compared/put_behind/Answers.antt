@@ -1,0 +1,6 @@
+-- `put_behind` puts its parts one behind the other. Assumes nothing.
+use Rattle.text.proofs.Puts.{then}
+use Rattle.text.proofs.compared.put_behind.Goals as goal
+
+pub returns : goal.returns
+returns c = search then

@@ -1,0 +1,8 @@
+-- What is left of the numbers goes to the place that was come to. Assumes nothing.
+use Rattle.std.proofs.Common.{◌≡◌, drop}
+use Rattle.text.specs.Putting.{puts}
+use Rattle.text.specs.Items.{values_text}
+use Rattle.text.proofs.items.put_numbers.Given as goal
+
+abbrev pub invariant-loop-j : goal.invariant-loop-j
+invariant-loop-j l = puts (values_text (drop l.j l.v)) l.place l.out ≡ puts (values_text l.v) l.at l.fn.out
