@@ -5,7 +5,6 @@ pub mod Shifts
 pub mod Whole
 pub mod PieceRuns
 pub mod Filled
-pub mod Tasks
 pub mod Sample
 pub mod Turning
 pub mod Going

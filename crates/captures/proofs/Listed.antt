@@ -19,10 +19,6 @@ use Rattle.captures.specs.declared.part.NextLine as next
 
 -- what putting a telegram's line does
 module _ (line ordinal base : ℕ) (s : List ℕ) (place : ℕ) (out : List ℕ) where
-  pub none-put : span_of s place ≡ Nothing → (next.TheVariants.Nothing, out) ≡ next_line_of line ordinal base s place out
-  unfolding next_line_of
-  none-put h = rw h
-
   pub one-put : (start end offset : ℕ) (part : List ℕ) (reading : Reading) (put : Writing) (x : List ℕ) (outcome : Outcome)
       → span_of s place ≡ Found start end → offset ≡ wrapped (base + start) → part ≡ part_of s (Found start end) → answer_of reading ≡ reading_of line part
       → (outcome_of put, x) ≡ line_put ordinal offset (answer_of reading) out → outcome_of put ≡ outcome

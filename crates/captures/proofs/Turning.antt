@@ -1,7 +1,6 @@
 -- A turn of a listing, in the order of its tests. Assumes nothing.
 use Rattle.std.proofs.Common.{◌≡◌, ℕ, ◌+◌, true, false, List, length, take, sym, ap, ◌∙◌}
-use Rattle.records.specs.Answers.{good, Outcome, written}
-use Rattle.text.specs.Putting.{puts}
+use Rattle.records.specs.Answers.{good, written}
 use Rattle.captures.specs.declared.part.Listed.{Listed}
 use Rattle.captures.specs.declared.lister.Lister.{Lister}
 use Rattle.captures.specs.declared.lister.Task.{Task}
@@ -9,15 +8,8 @@ use Rattle.captures.specs.Part.{list_part, kept_from}
 use Rattle.pieces.specs.Tails.{tail_put}
 use Rattle.pieces.specs.Turns.{Turned}
 use Rattle.pieces.proofs.Runs.{wanted}
-use Rattle.pieces.specs.Line.{bad_line}
-use Rattle.captures.specs.Lister.{list_fault, task_for, ended}
-use Rattle.captures.specs.Turn.{again, behind, unnamed, carried, carried_on, done_by, listing, list_of}
-
-pub unnamed-put : (m : Lister) (out t : List ℕ) (l : Lister) (r : ℕ) (x : List ℕ) → t ≡ bad_line → (r, x) ≡ puts t 0 out → l ≡ ended m → (l, (written r, x)) ≡ unnamed m out
-unfolding unnamed
-unnamed-put m out t l r x b e g =
-    let p : (r, x) ≡ puts bad_line 0 out = e ∙ ap (λ (u : List ℕ). puts u 0 out) b in
-    rw g (ap {B = Lister × (Outcome × List ℕ)} (λ (y : ℕ × List ℕ). (ended m, (written y.0, y.1))) p)
+use Rattle.captures.specs.Lister.{list_fault, task_for}
+use Rattle.captures.specs.Turn.{again, behind, carried, carried_on, done_by, listing, list_of}
 
 module _ (m : Lister) (line : ℕ) (buf : List ℕ) (n : ℕ) (out s : List ℕ) (listed : Listed) (x : List ℕ) (p : s ≡ take n buf)
     (e : (listed, x) ≡ list_part line m.ordinal m.base s m.next out) where

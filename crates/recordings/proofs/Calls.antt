@@ -13,7 +13,7 @@ use Rattle.logs.specs.declared.marks.Mark.TheVariants.{Master, Slave, Hit}
 use Rattle.recordings.specs.Replay.Rows.{heard_row, ticked_row, hear_row, tick_row, row_of}
 use Rattle.recordings.specs.Replay.Texts.{text_on}
 use Rattle.recordings.specs.Replay.Whole.{replay_on}
-use Rattle.recordings.specs.Replay.Calls.{call_by, Made, made, made_of, rows_by, end_row, by_hand, ByHand}
+use Rattle.recordings.specs.Replay.Calls.{call_by, Made, made, made_of, rows_by, end_row, by_hand as told_by_hand, ByHand}
 
 -- the desk behind a record is the one behind its call
 pub row-desk : (mark : Mark) (d : Desk) (ordinal offset time : ℕ) (bytes : List ℕ) (calls : List Call)
@@ -55,8 +55,8 @@ rows-by-hand (r ∷ rs) ending d ordinal n =
     (made_of (wrapped (ordinal + 1)) (wrapped (n + size_of r)) rs) (end_row ending (wrapped (n + size_of r + sizes_of rs)))
     (λ e. rows-by-hand rs ending e (wrapped (ordinal + 1)) (n + size_of r)))
 
-pub by-hand : ByHand
-unfolding replay_on by_hand
-by-hand line log =
+pub by_hand : ByHand
+unfolding replay_on told_by_hand
+by_hand line log =
     let z : 0 + sizes_of (log_of log).0 ≡ sizes_of (log_of log).0 = omega arith in
     rw z at (rows-by-hand (log_of log).0 (log_of log).1 (start_of line).0 1 0)

@@ -125,7 +125,7 @@ module _ (m : Replayer) (buf : List ℕ) (got : ℕ) (out : List ℕ) (l : m.hel
   by-wants f Read q going = on_test (eqb got 0) (λ z. rw z (last_made f q (eqb-true got 0 z))) (λ z. rw z (carry f.fine (λ r. eqb-false got 0 z)))
 
 steps : Steps replaying left Fits
-steps m buf got out f going l space = (f.fine.ranged, by-wants m buf got out l space f m.wants refl going)
+steps m buf got out f going l space = (cc f.fine.ranged, by-wants m buf got out l space f m.wants refl going)
 
 begins : (line : ℕ) → is_line line ≡ true → (buf : List ℕ) → On replaying left Fits steps (replay_on line) (begun line buf)
 unfolding begun_on replay_on

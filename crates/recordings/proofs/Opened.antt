@@ -14,7 +14,7 @@ use Rattle.recordings.specs.Replay.Turn.{opened_on, replaying}
 use Rattle.recordings.specs.Replay.Whole.{replay_on, replay_of}
 use Rattle.recordings.specs.Replay.Calls.{input_by_hand}
 use Rattle.recordings.specs.Replay.Runs.{begun, opened_at, WholeInput, InputByHand, EachTurnOnInput}
-use Rattle.recordings.proofs.Calls.{by-hand}
+use Rattle.recordings.proofs.Calls.{by_hand}
 use Rattle.recordings.proofs.EachTurn.{whole-replay, each_turn}
 
 -- a text placed in front stands there
@@ -94,7 +94,7 @@ each-turn-on-input (digit ∷ other ∷ more) out buf l room gs may g turn = abs
 same-by-hand : (input : List ℕ) → replay_of input ≡ input_by_hand input
 unfolding replay_of input_by_hand
 same-by-hand [] = refl
-same-by-hand (digit ∷ log) = rw (by-hand (line_named digit) log)
+same-by-hand (digit ∷ log) = rw (by_hand (line_named digit) log)
 
 pub input-by-hand : InputByHand
 input-by-hand first out buf l room gs may e = whole-input first out buf l room gs may e ∙ same-by-hand _

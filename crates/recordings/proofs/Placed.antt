@@ -1,5 +1,5 @@
 -- A text that has room is put whole, and one put into a part of an output stands where the part begins. Assumes nothing.
-use Rattle.std.proofs.Common.{◌≡◌, ℕ, ◌+◌, ◌≤◌, List, ◌++◌, length, take, drop, sym, ap, ◌∙◌, append_assoc, zero-add, arith, length-drop, take-append-drop, length-take, length-take-le, drop-drop}
+use Rattle.std.proofs.Common.{◌≡◌, ℕ, ◌+◌, ◌≤◌, List, ◌++◌, length, take, drop, sym, ap, ◌∙◌, append_assoc, zero-add, arith, length-drop, take-append-drop, length-take, drop-drop}
 use lib.Seq.{drop-append-le}
 use borrow.Rule.Slice.PartMut.{mid_of, put_mid}
 use Rattle.text.specs.Putting.{puts, placed}
@@ -21,6 +21,3 @@ at_part t out filled k h g =
     rw (zero-add (length t))
     (sym (drop-append-le (length t) (take k (drop filled out)) (drop k (drop filled out)) l) ∙ (ap (drop (length t)) (take-append-drop k (drop filled out)) ∙ drop-drop (length t) filled out)) in
     ap (λ (u : List ℕ). take filled out ++ u) (append_assoc t (drop (0 + length t) (take k (drop filled out))) (drop k (drop filled out)) ∙ ap (λ (u : List ℕ). t ++ u) e)
-
-pub part_length : (out : List ℕ) (filled k : ℕ) → filled + k ≤ length out → length (mid_of filled k out) ≡ k
-part_length out filled k h = length-take-le k (drop filled out) (omega (arith, length-drop filled out))
