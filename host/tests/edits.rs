@@ -109,16 +109,24 @@ fn no_other_edit_passes() {
     }
 }
 
-/// What the gate has said already is not asked again, and an edit of which it says nothing fails.
+/// What the gate has said already is not asked again.
 #[test]
 fn what_was_said_is_judged() {
     let folder = made("said", "right");
-    let said = folder.join("said");
-    let words = ["--said", said.to_str().expect("a path")];
+    let said = folder.join("words");
     let line = "rt: must-fail upper/tried.edit: refused, as it must be: note: src/lib.rt:1:1: it is not proved\n";
     fs::write(&said, line).expect("a file");
+    let words = ["--said", said.to_str().expect("a path")];
     assert_eq!(tried(&folder, &words).0, "1 passed, 0 failed");
+}
+
+/// The edits of a crate that is not proved are not tried, and so they fail.
+#[test]
+fn a_crate_must_be_proved() {
+    let folder = made("unproved", "wrong once");
+    let said = folder.join("words");
     fs::write(&said, "rt: upper NOT PROVED\n").expect("a file");
+    let words = ["--said", said.to_str().expect("a path")];
     let (last, text, well) = tried(&folder, &words);
     assert_eq!(last, "0 passed, 1 failed", "{text}");
     assert!(text.contains("upper/tried.edit: NOT TRIED"), "{text}");
