@@ -17,6 +17,8 @@ case $(cat crates/upper/must-fail/tried.edit) in
 *long*) echo "$at refused, as it must be (only by a limit of the prover, which gave no verdict): ./proofs/one/Answers.antt:3:5: error" ;;
 *senseless*) echo "$at BAD EDIT: the prover cannot read the edited text, so no contract was tried: specs/One.antt:3:5: error" ;;
 *absent*) echo "$at BAD EDIT: an 'old:' text is in src/lib.rt 0 times, and not once" ;;
+*twice*) echo "$at BAD EDIT: an 'old:' text is in src/lib.rt 2 times, and not once" ;;
+*empty*) echo "$at BAD EDIT: it has no 'old:' and 'new:' pair" ;;
 *broken*) echo "$at BAD EDIT: it did not reach the prover" ;;
 *killed*) echo "$at NOT TRIED: its check was killed, most likely for memory" ;;
 *silent*) ;;
@@ -97,6 +99,8 @@ fn no_other_edit_passes() {
         ("long", "BAD EDIT"),
         ("senseless", "BAD EDIT"),
         ("absent", "BAD EDIT"),
+        ("twice there", "BAD EDIT"),
+        ("empty", "BAD EDIT"),
         ("broken", "BAD EDIT"),
         ("killed", "NOT TRIED"),
         ("silent", "NOT TRIED"),

@@ -26,41 +26,46 @@ fn expected(row: &[u8]) -> &[u8] {
     }
 }
 
-// Writes the first n bytes of an output.
-fn say(rt: HostRuntime, out: &[u8], n: usize) {
-    write_out(rt, out, n, b"cases: writing");
+// Writes the first n bytes of an output; whether they are written.
+fn say(rt: HostRuntime, out: &[u8], n: usize) -> bool {
+    write_out(rt, out, n, b"cases: writing")
 }
 
-// Says a row with what came, and counts it.
-fn told(rt: HostRuntime, row: &[u8], came: &[u8], tally: Tally, out: &mut [u8]) -> Tally {
+// Says a row with what came, and counts it; None where it cannot be written.
+fn told(rt: HostRuntime, row: &[u8], came: &[u8], tally: Tally, out: &mut [u8]) -> Option<Tally> {
     let n = put_row(out, 0, field(row, b'|', 0), expected(row), came);
-    say(rt, out, n);
-    tally.counted(expected(row), came)
+    if !say(rt, out, n) {
+        return None;
+    }
+    Some(tally.counted(expected(row), came))
 }
 
-fn one(rt: HostRuntime, row: &[u8], tally: Tally, out: &mut [u8]) -> Tally {
+fn one(rt: HostRuntime, row: &[u8], tally: Tally, out: &mut [u8]) -> Option<Tally> {
     let mut came = [0u8; 128];
     let n = runs::put_came(row, &mut came);
     told(rt, row, part(&came, 0, n), tally, out)
 }
 
-fn all(rt: HostRuntime, text: &[u8], out: &mut [u8]) -> Tally {
+// Row after row, as long as each can be written.
+fn all(rt: HostRuntime, text: &[u8], out: &mut [u8]) -> Option<Tally> {
     let mut tally = Tally::start();
     for k in 0..65536usize {
         let row = field(text, b'\n', k);
         if row.len() == 0 {
-            return tally;
+            return Some(tally);
         }
-        tally = one(rt, row, tally, out);
+        tally = one(rt, row, tally, out)?;
     }
-    tally
+    Some(tally)
 }
 
 pub(crate) fn run(rt: HostRuntime, input: &mut [u8], out: &mut [u8]) {
     let Got::Bytes(n) = read_full(rt, input, b"cases: reading") else {
         return;
     };
-    let tally = all(rt, part(input, 0, n), out);
+    let Some(tally) = all(rt, part(input, 0, n), out) else {
+        return;
+    };
     let end = put_tally(out, 0, tally);
     say(rt, out, end);
 }

@@ -7,12 +7,14 @@ use text::numbers::put_number;
 use text::putting::put_text;
 use text::tally::{Tally, put_tally};
 
-// Says a row, and counts it.
-fn told(rt: HostRuntime, name: &[u8], expected: &[u8], came: &[u8], tally: Tally) -> Tally {
+// Says a row, and counts it; None where it cannot be written.
+fn told(rt: HostRuntime, name: &[u8], expected: &[u8], came: &[u8], tally: Tally) -> Option<Tally> {
     let mut out = [0u8; 256];
     let n = put_row(&mut out, 0, name, expected, came);
-    write_out(rt, &out, n, b"damage: writing");
-    tally.counted(expected, came)
+    if !write_out(rt, &out, n, b"damage: writing") {
+        return None;
+    }
+    Some(tally.counted(expected, came))
 }
 
 // So many of all.
@@ -23,7 +25,7 @@ fn put_of(out: &mut [u8], n: u64, all: u64) -> usize {
 }
 
 // The row of n readings that are as is due; all are expected.
-fn row(rt: HostRuntime, name: &[u8], n: u64, all: u64, tally: Tally) -> Tally {
+fn row(rt: HostRuntime, name: &[u8], n: u64, all: u64, tally: Tally) -> Option<Tally> {
     let mut expected = [0u8; 64];
     let mut came = [0u8; 64];
     let a = put_of(&mut expected, all, all);
@@ -38,7 +40,7 @@ fn put_name(out: &mut [u8], index: usize, how: &[u8]) -> usize {
 }
 
 // The row of one byte, which takes each of 256 values.
-fn byte_row(rt: HostRuntime, index: usize, right: bool, how: &[u8], tally: Tally) -> Tally {
+fn byte_row(rt: HostRuntime, index: usize, right: bool, how: &[u8], tally: Tally) -> Option<Tally> {
     let mut name = [0u8; 64];
     let n = put_name(&mut name, index, how);
     row(
@@ -57,22 +59,24 @@ fn byte_rows(
     right: bool,
     how: &[u8],
     tally: Tally,
-) -> Tally {
+) -> Option<Tally> {
     let mut t = tally;
     for index in from..to {
-        t = byte_row(rt, index, right, how, t);
+        t = byte_row(rt, index, right, how, t)?;
     }
-    t
+    Some(t)
 }
 
-fn all(rt: HostRuntime) -> Tally {
-    let a = byte_rows(rt, 0, 23, false, b" replaced", Tally::start());
-    let b = byte_rows(rt, 3, 20, true, b" replaced, sum made right", a);
+fn all(rt: HostRuntime) -> Option<Tally> {
+    let a = byte_rows(rt, 0, 23, false, b" replaced", Tally::start())?;
+    let b = byte_rows(rt, 3, 20, true, b" replaced, sum made right", a)?;
     row(rt, b"lengths 0 to 4095", telegrams::lengths(), 4096, b)
 }
 
 pub(crate) fn run(rt: HostRuntime) {
-    let tally = all(rt);
+    let Some(tally) = all(rt) else {
+        return;
+    };
     let mut out = [0u8; 64];
     let n = put_tally(&mut out, 0, tally);
     write_out(rt, &out, n, b"damage: writing");

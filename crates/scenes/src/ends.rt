@@ -20,27 +20,30 @@ pub(crate) fn blank() -> Ends {
     Ends { desk, master }
 }
 
-// Writes what a row prints.
-fn write(rt: HostRuntime, out: &[u8], n: usize) {
-    write_out(rt, out, n, b"scenes: writing");
+// Writes what a row prints; whether it is written.
+fn write(rt: HostRuntime, out: &[u8], n: usize) -> bool {
+    write_out(rt, out, n, b"scenes: writing")
 }
 
-fn desk_row(rt: HostRuntime, ends: Ends, row: &[u8], out: &mut [u8]) -> Ends {
+// Both ends where a row is written, else None.
+fn behind(ends: Ends, written: bool) -> Option<Ends> {
+    if written { Some(ends) } else { None }
+}
+
+fn desk_row(rt: HostRuntime, ends: Ends, row: &[u8], out: &mut [u8]) -> Option<Ends> {
     let before = ends.desk;
     let master = ends.master;
     let printed = scripts::desks::behind::on_row(before, row, out);
-    write(rt, out, printed.length);
     let desk = printed.desk;
-    Ends { desk, master }
+    behind(Ends { desk, master }, write(rt, out, printed.length))
 }
 
-fn master_row(rt: HostRuntime, ends: Ends, row: &[u8], out: &mut [u8]) -> Ends {
+fn master_row(rt: HostRuntime, ends: Ends, row: &[u8], out: &mut [u8]) -> Option<Ends> {
     let desk = ends.desk;
     let before = ends.master;
     let printed = scripts::masters::behind::on_row(before, row, out);
-    write(rt, out, printed.length);
     let master = printed.master;
-    Ends { desk, master }
+    behind(Ends { desk, master }, write(rt, out, printed.length))
 }
 
 // A row of neither end: elapsed time, a comment, or a row that names no call.
@@ -52,8 +55,8 @@ fn other_row(kind: Kind, row: &[u8], out: &mut [u8]) -> usize {
     }
 }
 
-// Both ends behind a row, whose text is written.
-pub(crate) fn on_row(rt: HostRuntime, ends: Ends, row: &[u8], out: &mut [u8]) -> Ends {
+// Both ends behind a row, whose text is written; None where it cannot be.
+pub(crate) fn on_row(rt: HostRuntime, ends: Ends, row: &[u8], out: &mut [u8]) -> Option<Ends> {
     let kind = kind_of(row);
     match kind {
         Kind::Desk => return desk_row(rt, ends, row, out),
@@ -61,6 +64,5 @@ pub(crate) fn on_row(rt: HostRuntime, ends: Ends, row: &[u8], out: &mut [u8]) ->
         _ => {}
     }
     let n = other_row(kind, row, out);
-    write(rt, out, n);
-    ends
+    behind(ends, write(rt, out, n))
 }

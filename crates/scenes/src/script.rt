@@ -88,13 +88,16 @@ fn first_row(rt: HostRuntime, buf: &mut [u8], row: &mut [u8]) -> Input {
     next_row(rt, input, buf, row)
 }
 
-// Row after row.
+// Row after row, as long as what each prints can be written.
 pub(crate) fn run(rt: HostRuntime, buf: &mut [u8], row: &mut [u8], out: &mut [u8]) {
     let mut both = ends::blank();
     let mut turns = u64::MAX;
     let mut input = first_row(rt, buf, row);
     while turns > 0 && input.whole {
-        both = ends::on_row(rt, both, part(row, 0, input.filled), out);
+        let Some(next) = ends::on_row(rt, both, part(row, 0, input.filled), out) else {
+            return;
+        };
+        both = next;
         input = next_row(rt, input, buf, row);
         turns = turns - 1;
     }
