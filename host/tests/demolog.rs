@@ -19,7 +19,6 @@ use host::second::replay::{replay, told};
 use host::second::words::ticked;
 use host::second::Second;
 use running::REPLAY;
-use std::env::consts::ARCH;
 use std::path::{Path, PathBuf};
 use std::process::Command;
 
@@ -170,7 +169,7 @@ fn the_kept_log() {
     }
     let file = Path::new(env!("CARGO_TARGET_TMPDIR")).join("demo.log");
     let mut demo = Command::new(env!("CARGO_BIN_EXE_demo"));
-    demo.args(["1", "2491", "90"]).arg(built("scenes", ARCH));
+    demo.args(["1", "2491", "90"]).arg(built("scenes"));
     let output = demo.arg(&file).arg("idle").output().expect("it runs");
     assert!(output.status.success());
     assert_eq!(std::fs::read(&file).expect("a log"), kept);
@@ -202,7 +201,7 @@ fn asked_for() {
         ),
     ] {
         let mut demo = Command::new(env!("CARGO_BIN_EXE_demo"));
-        demo.args(["1", "33", "1"]).arg(built("scenes", ARCH));
+        demo.args(["1", "33", "1"]).arg(built("scenes"));
         let output = demo.args([log, panel]).output().expect("it runs");
         assert_eq!(output.status.code(), Some(2));
         let said = String::from_utf8_lossy(&output.stderr).into_owned();

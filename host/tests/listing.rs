@@ -28,16 +28,15 @@ fn the_sample_of_document_01() {
     );
 }
 
-/// As rt compiles it, which another machine runs in an emulator.
+/// Captures at random, whole.
 #[test]
 fn the_program_for_x86_64() {
-    let listing = LISTING.for_x86_64();
-    listing.compare("sample for x86-64", SAMPLE);
+    LISTING.compare("sample for x86-64", SAMPLE);
     let mut random = Random::seeded(86);
     for round in 0..30 {
         let line = 1 + (round % 3) as u8;
         let bytes = capture(&mut random, line, 20_000);
-        listing.compare(&format!("x86-64, round {round}"), &bytes);
+        LISTING.compare(&format!("x86-64, round {round}"), &bytes);
     }
 }
 

@@ -9,7 +9,6 @@ use host::programs::built::built;
 use host::second::listing::listing;
 use host::second::replay::replay;
 use machine::{has, repository, text};
-use std::env::consts::ARCH;
 use std::fs::{self, File};
 use std::os::unix::fs::symlink;
 use std::path::{Path, PathBuf};
@@ -44,7 +43,7 @@ fn made(name: &str, words: &[&str]) -> Option<PathBuf> {
     let archive = folder.join("libin656.a");
     ends_well(Command::new("cp").arg(library).arg(&archive));
     for program in ["listing", "replay", "scenes"] {
-        ends_well(Command::new("cp").arg(built(program, ARCH)).arg(&dist));
+        ends_well(Command::new("cp").arg(built(program)).arg(&dist));
     }
     let make = Command::new("make")
         .args(words)

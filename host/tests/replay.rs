@@ -218,10 +218,9 @@ fn random_logs() {
     }
 }
 
-/// As rt compiles it, which another machine runs in an emulator.
+/// Logs at random, whole and spoiled.
 #[test]
 fn the_program_for_x86_64() {
-    let replay = REPLAY.for_x86_64();
     let mut random = Random::seeded(86);
     for round in 0..30 {
         let line = 1 + (round % 3) as u8;
@@ -230,7 +229,7 @@ fn the_program_for_x86_64() {
             spoil(&mut random, &mut bytes);
         }
         let input = on_line(line, &[&bytes]);
-        replay.compare(&format!("x86-64, round {round}"), &input);
+        REPLAY.compare(&format!("x86-64, round {round}"), &input);
     }
 }
 

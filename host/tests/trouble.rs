@@ -4,7 +4,6 @@
 use host::programs::built::{built, command};
 use host::second::listing::listing;
 use host::second::replay::replay;
-use std::env::consts::ARCH;
 use std::fs::File;
 use std::io::{Read, Write};
 use std::os::fd::OwnedFd;
@@ -23,7 +22,7 @@ const PROGRAMS: [&str; 2] = ["listing", "replay"];
 
 /// The command that runs a program.
 fn program(name: &str) -> Command {
-    command(built(name, ARCH))
+    command(built(name))
 }
 
 /// A sample for a program, as standard input.
@@ -186,7 +185,7 @@ fn installed_programs() {
     let prefix = root.join("usr/local");
     for name in ["listing", "replay", "scenes"] {
         let status = Command::new(repository("tools/install-program"))
-            .arg(built(name, ARCH))
+            .arg(built(name))
             .args([prefix.join("bin"), prefix.join("libexec")])
             .status();
         assert!(status.expect("it runs").success());

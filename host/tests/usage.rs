@@ -2,7 +2,6 @@
 //! with status 2. The C examples are tried in `examples.rs`.
 
 use host::programs::built::{built, command};
-use std::env::consts::ARCH;
 use std::process::{Command, Output, Stdio};
 
 /// Checks that a run printed nothing, said how the program is called, and ended with status 2.
@@ -52,7 +51,7 @@ fn the_proved_programs() {
         ("cases", "cases < ROWS"),
         ("damage", "damage"),
     ] {
-        let mut program = command(built(name, ARCH));
+        let mut program = command(built(name));
         let output = program.arg("line1.cap").stdin(Stdio::null()).output();
         says(&output.expect("it runs"), usage);
     }

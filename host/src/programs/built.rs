@@ -1,31 +1,16 @@
 //! Finding and running the built programs.
 
 use std::collections::BTreeMap;
-use std::env::consts::ARCH;
 use std::ffi::OsStr;
 use std::io::Write;
 use std::path::{Path, PathBuf};
 use std::process::{Command, Stdio};
 use std::sync::Mutex;
 
-/// A path in the folder of what is built.
-fn in_target(folder: &str, name: &str) -> PathBuf {
-    let target = Path::new(env!("CARGO_MANIFEST_DIR")).join("../target");
-    target.join(folder).join(name)
-}
-
-/// The built program of this name, for this machine or as rt compiles it, for x86-64. A program for
-/// another machine must be of the module that rt compiled last (`tools/kit`).
-pub fn built(name: &str, machine: &str) -> PathBuf {
-    let folder = if machine == "x86_64" {
-        "bin"
-    } else {
-        let object = |folder| std::fs::read(in_target(folder, &format!("{name}.o"))).ok();
-        let same = object("obj") == object("native");
-        assert!(same, "{name} is proved anew: run tools/build check {name}");
-        "native"
-    };
-    let path = in_target(folder, name);
+/// The built program of this name. rt compiles it for x86-64.
+pub fn built(name: &str) -> PathBuf {
+    let folder = Path::new(env!("CARGO_MANIFEST_DIR")).join("../target/bin");
+    let path = folder.join(name);
     let there = path.is_file();
     assert!(there, "{name} is not built: run tools/build check {name}");
     path
@@ -60,7 +45,7 @@ pub fn started(path: &Path) -> Command {
 
 /// What the built program of this name says of an input.
 pub fn said(name: &str, input: &str) -> String {
-    let mut child = command(built(name, ARCH))
+    let mut child = command(built(name))
         .stdin(Stdio::piped())
         .stdout(Stdio::piped())
         .spawn()

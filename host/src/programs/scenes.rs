@@ -7,7 +7,6 @@ use crate::second::desk::{Hearing, Refusal};
 use crate::second::master::Told;
 use crate::second::records::Record;
 use crate::second::words::{done, hearing, in_row, output, shown, ticked, told};
-use std::env::consts::ARCH;
 use std::ffi::OsStr;
 use std::io::{self, BufRead, BufReader, ErrorKind, Write};
 use std::process::{Child, ChildStdin, ChildStdout, Stdio};
@@ -22,7 +21,7 @@ pub struct Scenes {
 impl Scenes {
     /// Starts the program that is built for this machine.
     pub fn built() -> Scenes {
-        Scenes::start(built("scenes", ARCH)).expect("the program starts")
+        Scenes::start(built("scenes")).expect("the program starts")
     }
 
     /// Starts the program at a path.

@@ -23,11 +23,7 @@ pub const DATA: &str = "B 125 90 120 88";
 
 /// The library for this machine, where it is built.
 pub fn library() -> Option<PathBuf> {
-    let path = if cfg!(target_arch = "x86_64") {
-        repository("target/staticlib/libin656.a")
-    } else {
-        repository("target/native/libin656.a")
-    };
+    let path = repository("target/staticlib/libin656.a");
     if !path.is_file() {
         skipped("the library is not built: tools/build archive in656");
         return None;

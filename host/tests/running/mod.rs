@@ -7,7 +7,6 @@
 use host::programs::built::{built, started};
 use host::second::listing::listing;
 use host::second::replay::replay;
-use std::env::consts::ARCH;
 use std::fs::{self, File};
 use std::io::{ErrorKind, Write};
 use std::path::{Path, PathBuf};
@@ -20,19 +19,16 @@ pub const SAMPLE: &[u8] = b"3\n08A0AAA5\r\n08A0AAA6\r";
 /// A built program and what the second version says that it prints.
 pub struct Built {
     name: &'static str,
-    machine: &'static str,
     second: fn(&[u8]) -> String,
 }
 
 pub const LISTING: Built = Built {
     name: "listing",
-    machine: ARCH,
     second: listing,
 };
 
 pub const REPLAY: Built = Built {
     name: "replay",
-    machine: ARCH,
     second: replay,
 };
 
@@ -42,18 +38,12 @@ fn file_for(name: &str) -> PathBuf {
 }
 
 impl Built {
-    /// The same program as rt compiles it, which another machine runs in an emulator.
-    pub fn for_x86_64(self) -> Built {
-        let machine = "x86_64";
-        Built { machine, ..self }
-    }
-
     /// The program's path: that in the environment variable of its name in capitals, taken from the
     /// crate's folder, else where it is built.
     fn path(&self) -> PathBuf {
         match std::env::var_os(self.name.to_uppercase()) {
             Some(named) => Path::new(env!("CARGO_MANIFEST_DIR")).join(named),
-            None => built(self.name, self.machine),
+            None => built(self.name),
         }
     }
 
