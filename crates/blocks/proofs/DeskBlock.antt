@@ -1,4 +1,5 @@
 -- A desk's block: its length, and what is loaded of it. Assumes nothing.
+use Rattle.std.specs.Prelude.{Option, None, Some}
 use mathlib.Core.Path.{◌≡◌, refl, sym, ap, ◌∙◌}
 use mathlib.Core.Bool.{true}
 use mathlib.Core.List.{List, ◌++◌}
@@ -10,8 +11,6 @@ use Rattle.laws.specs.Truth.{All}
 use Rattle.laws.specs.Numerals.{numeral_on}
 use Rattle.characters.specs.Marks.{longest}
 use Rattle.records.specs.declared.records.Record.{Record}
-use Rattle.desk.specs.declared.replying.Wanted.{Wanted}
-use Rattle.desk.specs.declared.replying.Wanted.TheVariants.{None, Is}
 use Rattle.desk.specs.declared.waiting.Waiting.{Waiting}
 use Rattle.desk.specs.State.{fresh, numbers_fit, in_ranges}
 use Rattle.desk.specs.declared.state.Desk.{Desk}
@@ -27,14 +26,14 @@ use Rattle.blocks.proofs.Parts.{small, flag-back, pad-whole}
 use Rattle.blocks.proofs.Loads.{loads-saved, other, one}
 
 -- a record that is set, or none
-wanted-length : (wanted : Wanted) → length (wanted_bytes wanted) ≡ record_length
+wanted-length : (wanted : Option Record) → length (wanted_bytes wanted) ≡ record_length
 wanted-length None = length-replicate {A = ℕ} record_length 0
-wanted-length (Is rec) = record-length rec
+wanted-length (Some rec) = record-length rec
 
-wanted-back : (wanted : Wanted) → NarrowWanted wanted → wanted_at (set_byte wanted) (wanted_bytes wanted) ≡ wanted
+wanted-back : (wanted : Option Record) → NarrowWanted wanted → wanted_at (set_byte wanted) (wanted_bytes wanted) ≡ wanted
 unfolding wanted_at
 wanted-back None h = refl
-wanted-back (Is rec) h = ap (λ (r : Record). Is r) (made_again rec h)
+wanted-back (Some rec) h = ap (λ (r : Record). Some r) (made_again rec h)
 
 -- the places of the queue
 queue-length : (queue : List Waiting) → length queue ≡ places → length (joined waiting_bytes queue) ≡ places * record_length
@@ -49,7 +48,7 @@ queue-back queue h t =
 behind-two : (p q r : List ℕ) (a b : ℕ) → length p ≡ a → length q ≡ b → drop (a + b) (p ++ (q ++ r)) ≡ r
 behind-two p q r a b h k = sym (drop-drop b a (p ++ (q ++ r))) ∙ rw (drop_at p (q ++ r) a h, drop_at q r b k)
 
-pub kept-length : (stored : List ℕ) (wanted : Wanted) (queue : List Waiting) → length stored ≡ longest → length queue ≡ places → length (kept_bytes stored wanted queue) ≡ kept_length
+pub kept-length : (stored : List ℕ) (wanted : Option Record) (queue : List Waiting) → length stored ≡ longest → length queue ≡ places → length (kept_bytes stored wanted queue) ≡ kept_length
 unfolding kept_bytes
 kept-length stored wanted queue h k =
     let b = wanted-length wanted in

@@ -1,4 +1,5 @@
 -- A record's block, put and read. Assumes nothing.
+use Rattle.std.specs.Prelude.{Ok, Err}
 use mathlib.Core.Path.{◌≡◌, refl, sym, ap, ◌∙◌}
 use mathlib.Core.Bool.{Bool, true, cond}
 use mathlib.Core.List.{List, [], ◌∷◌}
@@ -11,8 +12,7 @@ use borrow.Author.Tests.{eq-eqb, ne_eqb}
 use Rattle.laws.specs.Truth.{All, pad}
 use Rattle.laws.proofs.Passes.{on_test}
 use Rattle.records.specs.Records.{type_of, fields_of, values_of}
-use Rattle.records.specs.Refusals.{No, no, refusal_of}
-use Rattle.records.specs.declared.refusals.Refusal.{Refusal}
+use Rattle.records.specs.Refusals.{No, no}
 use Rattle.records.specs.declared.records.Record.{Record}
 use Rattle.records.proofs.Again.{record-again}
 use Rattle.records.proofs.Apart.{one-refusal}
@@ -21,7 +21,6 @@ use Rattle.text.proofs.Rows.{same-is-equal, equal-is-same}
 use Rattle.blocks.specs.Layout.{joined}
 use Rattle.text.specs.Fours.{four_bytes, four_said}
 use Rattle.blocks.specs.Record.{values_length, text_length, record_length, record_bytes, record_at, is, refused, record_in, OneFound, Narrow, RecordBack, RecordBlock}
-use Rattle.blocks.specs.declared.record.Found.TheVariants.{Is, Refused}
 use Rattle.blocks.proofs.Laid.{filled-with, joined_length, each_back}
 use Rattle.text.proofs.FourBytes.{four-length, four-back}
 
@@ -99,7 +98,7 @@ record-block rec b h =
     (λ l. never (no 12 0) rec (rw l at h))
 
 pub one_found : OneFound
-one_found (Is x) (Is y) h = ap (λ (rec : Record). Is rec) (same-record x y h)
-one_found (Is x) (Refused y) h = never (refusal_of y) x (sym h)
-one_found (Refused x) (Is y) h = never (refusal_of x) y h
-one_found (Refused x) (Refused y) h = let q : refusal_of x ≡ refusal_of y = cc in ap (λ (z : Refusal). Refused z) (one-refusal x y q)
+one_found (Ok x) (Ok y) h = let e : x ≡ y = same-record x y h in cc
+one_found (Ok x) (Err y) h = cc
+one_found (Err x) (Ok y) h = cc
+one_found (Err x) (Err y) h = let e : x ≡ y = one-refusal x y (cc) in cc

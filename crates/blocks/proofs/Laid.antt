@@ -1,13 +1,16 @@
 -- Things one behind the other, put and taken. Assumes nothing.
-use mathlib.Core.Path.{◌≡◌, refl, sym, ap, ◌∙◌}
+use mathlib.Core.Path.{◌≡◌, refl, sym, ap, subst, ◌∙◌}
 use mathlib.Core.Bool.{Bool}
 use mathlib.Core.List.{List, [], ◌∷◌, ◌++◌, append-nil}
 use Prim.Native.Nat.{ℕ, zero, suc, ◌+◌, ◌*◌, ◌≤◌, ◌<◌}
 use native.Mathlib.Omega.{arith}
 use native.Mathlib.Numerals.{add-one}
 use lib.ListN.{length, take, drop, get_or, length-append, drop_of_length-le}
-use lib.Seq.{take_at, drop_at, drop-drop, drop-cons, ext_get_or}
+use lib.Seq.{take_at, drop_at, drop-drop, drop-cons}
 use borrow.Author.Tests.{eq-eqb, ne_eqb}
+use denote.Param.Members.{Mut}
+use Rattle.std.specs.Array.{IsFromFnResultFrom, IsFromFnResult}
+use Rattle.std.specs.Iterator.{ActsAs}
 use Rattle.laws.specs.Truth.{All}
 use Rattle.text.specs.Fields.{same_text}
 use Rattle.text.specs.Putting.{puts, placed}
@@ -55,23 +58,22 @@ module _ {A : Type 0} (bytes_of : A → List ℕ) where
   joined_length width w (x ∷ xs) = let h = joined_length width w xs in let k = w x in simp length-append (omega arith)
 
 module _ {A : Type 0} (width : ℕ) (thing_in : List ℕ → A) where
-  pub each-length : (n : ℕ) (b : List ℕ) → length (each width thing_in n b) ≡ n
+  -- calls at each place in turn take what stands there
+  taken-from : {F : Type 0} (g : Mut F (ℕ × Unit {0}) A) (b : List ℕ) (ys : List A) (n i : ℕ) (f : F) → ActsAs g f (λ (k : ℕ). thing_in (take width (drop (width * k) b)))
+      → length ys ≡ i + n → IsFromFnResultFrom g f ys i n → drop i ys ≡ each width thing_in n (drop (width * i) b)
   unfolding each
-  each-length zero b = refl
-  each-length (suc n) b = ap suc (each-length n (drop width b))
+  taken-from g b ys zero i f acts l h = drop_of_length-le ys {i = i} (omega arith)
+  taken-from {F} g b ys (suc n) i f acts l (q, y, e, call, rest) =
+      let a = acts i y q call in
+      let on = taken-from g b ys n (i + 1) q (subst (λ (z : F). ActsAs g z (λ (k : ℕ). thing_in (take width (drop (width * k) b)))) (sym a.0) acts) (omega arith) rest in
+      let w : width * i + width ≡ width * (i + 1) = omega arith in
+      drop-cons ys i y (omega arith) ∙ (rw (← (add-one i), e.0, drop-drop width (width * i) b, w, on) (ap (λ (x : A). x ∷ each width thing_in n (drop (width * (i + 1)) b)) a.1))
 
-  -- what stands at each place
-  each_at : (d : A) (n i : ℕ) (b : List ℕ) → i < n → get_or (each width thing_in n b) i d ≡ thing_in (take width (drop (width * i) b))
-  unfolding each
-  each_at d zero i b h = absurd (omega arith)
-  each_at d (suc n) zero b h = let e : width * 0 ≡ 0 = omega arith in rw e
-  each_at d (suc n) (suc i) b h =
-      let e : width + width * i ≡ width * suc i = omega arith in
-      each_at d n i (drop width b) (omega arith) ∙ rw (drop-drop (width * i) width b, e)
-
-  -- all are taken
-  pub all-taken : (d : A) (b : List ℕ) (v : List A) (n : ℕ) → length v ≡ n → ((k : ℕ) → k < n → get_or v k d ≡ thing_in (take width (drop (width * k) b))) → v ≡ each width thing_in n b
-  all-taken d b v n l h = ext_get_or d v (each width thing_in n b) (l ∙ sym (each-length n b)) (λ i g. h i (omega arith) ∙ sym (each_at d n i b (omega arith)))
+  pub all-taken : {F : Type 0} {g : Mut F (ℕ × Unit {0}) A} {f : F} {ys : List A} {n : ℕ} → IsFromFnResult g f ys n → (b : List ℕ)
+      → ActsAs g f (λ (k : ℕ). thing_in (take width (drop (width * k) b))) → ys ≡ each width thing_in n b
+  all-taken {F} {g} {f} {ys} {n} r b acts =
+      let w : width * 0 ≡ 0 = omega arith in
+      rw w at (taken-from g b ys n 0 f acts (omega (arith, r.long)) r.each)
 
   -- what was put is taken again
   pub each_back : (bytes_of : A → List ℕ) → ((x : A) → length (bytes_of x) ≡ width) → (P : A → Type 0) → ((x : A) → P x → thing_in (bytes_of x) ≡ x)

@@ -1,4 +1,6 @@
 -- Bytes that say a count or a truth, and lists of just a length. Assumes nothing.
+use Rattle.std.specs.Prelude.{Result, Ok, Err, OkIff}
+use Rattle.std.specs.Result.{result_unwrap_or}
 use mathlib.Core.Path.{◌≡◌, refl, ap}
 use mathlib.Core.Bool.{Bool, true, false}
 use mathlib.Core.List.{List, [], ◌∷◌}
@@ -18,6 +20,11 @@ small n h = rw (lt-ltb n 256 h)
 pub large : (n : ℕ) → 256 ≤ n → 255 ≡ count_byte n
 unfolding count_byte
 large n h = rw (le-ltb n 256 h)
+
+-- so a count is a byte, or else 255
+pub in-byte : {E : Type 0} (n byte : ℕ) (r : Result ℕ E) → OkIff r (n < 256) n → byte ≡ result_unwrap_or r 255 → byte ≡ count_byte n
+in-byte n byte (Ok m) h e = grind (arith, small)
+in-byte n byte (Err x) h e = grind (arith, large)
 
 -- a truth is read again
 pub flag-back : (on : Bool) → eqb (flag_byte on) 1 ≡ on

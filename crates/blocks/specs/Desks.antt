@@ -1,10 +1,8 @@
 -- A desk as a block (rules F7, F8). Assumes nothing.
-use Rattle.std.specs.Prelude.{◌≡◌, cond, List, [], ◌∷◌, ◌++◌, ℕ, ◌+◌, ◌*◌, ◌<◌, ◌^◌, eqb, length, get_or, replicate}
+use Rattle.std.specs.Prelude.{◌≡◌, cond, List, [], ◌∷◌, ◌++◌, ℕ, ◌+◌, ◌*◌, ◌<◌, ◌^◌, eqb, length, get_or, replicate, Option, None, Some}
 use Rattle.laws.specs.Truth.{All, pad}
 use Rattle.characters.specs.Marks.{longest}
 use Rattle.records.specs.declared.records.Record.{Record}
-use Rattle.desk.specs.declared.replying.Wanted.{Wanted}
-use Rattle.desk.specs.declared.replying.Wanted.TheVariants.{None, Is}
 use Rattle.desk.specs.declared.waiting.Waiting.{Waiting}
 use Rattle.desk.specs.State.{fresh, in_ranges}
 use Rattle.desk.specs.declared.state.Desk.{Desk}
@@ -45,23 +43,23 @@ abbrev pub waiting_at : List ℕ → Waiting
 waiting_at b = waiting_of (record_at b)
 
 -- whether a record is set, and its block, or 0 where none is set
-abbrev pub set_byte : Wanted → ℕ
+abbrev pub set_byte : Option Record → ℕ
 set_byte None = 0
-set_byte (Is rec) = 1
+set_byte (Some rec) = 1
 
-abbrev pub wanted_bytes : Wanted → List ℕ
+abbrev pub wanted_bytes : Option Record → List ℕ
 wanted_bytes None = replicate record_length 0
-wanted_bytes (Is rec) = record_bytes rec
+wanted_bytes (Some rec) = record_bytes rec
 
-unfoldable pub wanted_at : ℕ → List ℕ → Wanted
-wanted_at set b = cond (eqb set 0) None (Is (record_at b))
+unfoldable pub wanted_at : ℕ → List ℕ → Option Record
+wanted_at set b = cond (eqb set 0) None (Some (record_at b))
 
 -- T1's start, the stored answer's length, the queue's count, and whether a record is set
 unfoldable pub count_bytes : ℕ → ℕ → ℕ → ℕ → List ℕ
 count_bytes t1 kept queued set = four_bytes t1 ++ (count_byte kept ∷ count_byte queued ∷ set ∷ [])
 
 -- the stored bytes, the record set for r, and the queue
-unfoldable pub kept_bytes : List ℕ → Wanted → List Waiting → List ℕ
+unfoldable pub kept_bytes : List ℕ → Option Record → List Waiting → List ℕ
 kept_bytes stored wanted queue = stored ++ (wanted_bytes wanted ++ joined waiting_bytes queue)
 
 -- line, good, last number and key, and then those
@@ -93,9 +91,9 @@ abbrev pub save_of : Desk → List ℕ → List ℕ
 save_of d b = filled desk_length (desk_bytes d) b
 
 -- the values of a record that is set are numbers of 32 bits
-abbrev pub NarrowWanted : Wanted → Type 0
+abbrev pub NarrowWanted : Option Record → Type 0
 NarrowWanted None = Unit {0}
-NarrowWanted (Is rec) = Narrow rec
+NarrowWanted (Some rec) = Narrow rec
 
 -- what the types of its fields say: T1's start and the values of its records are numbers of 32 bits; as many stored bytes as a telegram
 -- may have; eight places

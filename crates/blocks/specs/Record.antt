@@ -1,5 +1,5 @@
 -- A record as a block of bytes (rule F5). Assumes nothing.
-use Rattle.std.specs.Prelude.{◌≡◌, cond, List, ◌∷◌, ◌++◌, ℕ, ◌+◌, ◌<◌, ◌^◌, eqb, length, get_or, replicate}
+use Rattle.std.specs.Prelude.{◌≡◌, cond, List, ◌∷◌, ◌++◌, ℕ, ◌+◌, ◌<◌, ◌^◌, eqb, length, get_or, replicate, Result, Ok, Err}
 use Rattle.laws.specs.Truth.{All}
 use Rattle.records.specs.Records.{type_of, fields_of, values_of, record_of}
 use Rattle.records.specs.Refusals.{No, no, refusal_of}
@@ -7,7 +7,7 @@ use Rattle.records.specs.declared.records.Record.{Record}
 use Rattle.text.specs.Fields.{same_text}
 use Rattle.blocks.specs.Layout.{joined, each, stretch, filled}
 use Rattle.text.specs.Fours.{four_bytes, four_said}
-use Rattle.blocks.specs.declared.record.Found as f
+use Rattle.records.specs.declared.refusals.Refusal.{Refusal}
 
 -- the bytes of the values; those for a text, which no record of the three lines has; and all bytes of a block
 abbrev pub values_length : ℕ
@@ -32,9 +32,9 @@ pub data Holding : Type 0 where
   is : Record → Holding
   refused : No → Holding
 
-abbrev pub found_of : f.Found → Holding
-found_of (f.TheVariants.Is rec) = is rec
-found_of (f.TheVariants.Refused x) = refused (refusal_of x)
+abbrev pub found_of : Result Record Refusal → Holding
+found_of (Ok rec) = is rec
+found_of (Err x) = refused (refusal_of x)
 
 -- 12 where the length is another or no record has the type, so that the one made has another; 13 where the block of the record made is another
 unfoldable pub record_in : List ℕ → Holding
@@ -45,7 +45,7 @@ record_in b =
 
 -- a promise through these definitions allows one answer only
 abbrev pub OneFound : Type 0
-OneFound = (x y : f.Found) → found_of x ≡ found_of y → x ≡ y
+OneFound = (x y : Result Record Refusal) → found_of x ≡ found_of y → x ≡ y
 
 -- a record's values are numbers of 32 bits, as its type says
 abbrev pub Narrow : Record → Type 0

@@ -1,25 +1,24 @@
 // A desk as a block: line, good, last number, key, T1's start, kept, queued, whether a record is set, the stored bytes, the record set
 // for r and the places of the queue (rules F7, F8).
+// put_ functions and no Display, as layout.rt says. Arrays have their count beside them: fixed memory, no heap.
 ghost use Rattle.std.specs.Prelude.{◌≡◌, length};
 ghost use Rattle.laws.specs.Truth.{pad};
 ghost use Rattle.characters.specs.Marks.{longest};
 ghost use Rattle.desk.specs.State.{fresh};
-ghost use Rattle.text.specs.Fields.{same_text};
 ghost use Rattle.text.specs.Putting.{puts};
-ghost use Rattle.blocks.specs.Layout.{joined, each};
 ghost use Rattle.blocks.specs.Record.{record_length};
-ghost use Rattle.blocks.specs.Desks.{places, waiting_bytes, waiting_at, set_byte, wanted_bytes, wanted_at, count_bytes, kept_length, kept_bytes, desk_length, desk_bytes, desk_at, load_of, save_of};
+ghost use Rattle.blocks.specs.Desks.{waiting_bytes, waiting_at, set_byte, wanted_bytes, wanted_at, count_bytes, kept_length, kept_bytes, desk_length, desk_bytes, desk_at, load_of};
 
 use crate::heads::{count_byte, put_head};
-use crate::record::{RECORD_LENGTH, put_block, record_at};
+use crate::layout;
+use crate::layout::{Put, Take, put_each, take_each};
+use crate::record::RECORD_LENGTH;
 use characters::marks::LONGEST;
-use characters::slices::{byte_at, copy, part, wide};
+use characters::slices::{byte_at, copy, part};
 use clock::counters::LastTaken;
-use desk::replying::Wanted;
 use desk::state::Desk;
 use desk::waiting::Waiting;
 use records::records::Record;
-use text::fields::same;
 use text::fours::{four_said, put_four};
 use text::putting::{put_byte, put_text};
 
@@ -38,65 +37,52 @@ const QUEUE: usize = WANTED + RECORD_LENGTH;
 // All bytes of a desk's block.
 pub const DESK_LENGTH: usize = QUEUE + PLACES * RECORD_LENGTH;
 
-// Whether a record is set, as a byte.
-fn set_byte(wanted: Wanted) -> u8
-    ensures { result ≡ set_byte wanted }
-{
-    match wanted {
-        Wanted::None => 0,
-        Wanted::Is(_) => 1,
+// A place of the queue is its record.
+impl Put for Waiting {
+    const LENGTH: usize = RECORD_LENGTH;
+
+    ghost LENGTH = { record_length };
+
+    ghost bytes_of = { waiting_bytes };
+
+    fn put(self, out: &mut [u8], at: usize) -> usize {
+        self.rec.put(out, at)
     }
 }
 
+impl Take for Waiting {
+    ghost made_of = { waiting_at };
+
+    fn take(bytes: &[u8]) -> Waiting {
+        Waiting {
+            rec: Record::take(bytes),
+        }
+    }
+}
+
+// Whether a record is set, as a byte.
+fn set_byte(wanted: Option<Record>) -> u8
+    ensures { result ≡ set_byte wanted }
+{
+    u8::from(wanted.is_some())
+}
+
 // Puts the record set for r, and 0 where none is set.
-fn put_wanted(out: &mut [u8], at: usize, wanted: Wanted) -> usize
+fn put_wanted(out: &mut [u8], at: usize, wanted: Option<Record>) -> usize
     ensures { (result, out.new) ≡ puts (wanted_bytes wanted) at out.old }
 {
-    let none = [0u8; RECORD_LENGTH];
     match wanted {
-        Wanted::None => put_text(out, at, &none),
-        Wanted::Is(rec) => put_block(out, at, rec),
+        None => put_text(out, at, &[0u8; RECORD_LENGTH]),
+        Some(rec) => rec.put(out, at),
     }
 }
 
 // The record set for r, where one is set.
 #[tactic(auto, unfolding(crate::specs::Desks::wanted_at))]
-fn wanted_at(set: u8, block: &[u8]) -> Wanted
+fn wanted_at(set: u8, block: &[u8]) -> Option<Record>
     ensures { result ≡ wanted_at set block.now }
 {
-    if set == 0 {
-        return Wanted::None;
-    }
-    Wanted::Is(record_at(block))
-}
-
-// Puts the places of the queue.
-fn put_queue(out: &mut [u8], at: usize, queue: [Waiting; PLACES]) -> usize
-    ensures { (result, out.new) ≡ puts (joined waiting_bytes queue) at out.old }
-{
-    let mut place = at;
-    for i in 0..PLACES {
-        let waiting = queue[i];
-        let rec = waiting.rec;
-        place = put_block(out, place, rec);
-    }
-    place
-}
-
-// The places of the queue.
-fn queue_at(s: &[u8]) -> [Waiting; PLACES]
-    ensures { result ≡ each record_length waiting_at places s.now }
-{
-    let mut queue = [Waiting {
-        rec: Record::Approved(0),
-    }; PLACES];
-    for i in 0..PLACES {
-        let waiting = Waiting {
-            rec: record_at(part(s, RECORD_LENGTH * i, RECORD_LENGTH)),
-        };
-        queue[i] = waiting;
-    }
-    queue
+    (set != 0).then(|| Record::take(block))
 }
 
 // Puts T1's start, the stored answer's length, the queue's count and whether a record is set.
@@ -114,30 +100,33 @@ fn put_kept(
     out: &mut [u8],
     at: usize,
     stored: [u8; LONGEST],
-    wanted: Wanted,
+    wanted: Option<Record>,
     queue: [Waiting; PLACES],
 ) -> usize
     ensures { ((result, out.new) ≡ puts (kept_bytes stored wanted queue) at out.old) × (length (kept_bytes stored wanted queue) ≡ kept_length) }
 {
     let a = put_text(out, at, &stored);
     let b = put_wanted(out, a, wanted);
-    put_queue(out, b, queue)
+    put_each(out, b, &queue)
 }
 
-// Puts a desk's block at a place, and answers the place behind it; says its length beside it.
-fn put_desk(out: &mut [u8], at: usize, d: Desk) -> usize
-    ensures { ((result, out.new) ≡ puts (desk_bytes d) at out.old) × (length (desk_bytes d) ≡ desk_length) }
-{
-    let last = d.last;
-    let wanted = d.requested;
-    let stored = d.stored;
-    let queue = d.queue;
-    let a = put_head(out, at, d.line, d.good, last.0, d.key);
-    let b = put_counts(out, a, d.t1, d.kept, d.queued, set_byte(wanted));
-    put_kept(out, b, stored, wanted, queue)
+impl Put for Desk {
+    const LENGTH: usize = DESK_LENGTH;
+
+    ghost LENGTH = { desk_length };
+
+    ghost bytes_of = { desk_bytes };
+
+    fn put(self, out: &mut [u8], at: usize) -> usize {
+        let a = put_head(out, at, self.line, self.good, self.last.0, self.key);
+        let set = set_byte(self.requested);
+        let b = put_counts(out, a, self.t1, self.kept, self.queued, set);
+        put_kept(out, b, self.stored, self.requested, self.queue)
+    }
 }
 
 // As many bytes as a telegram may have, 0 behind those that are there.
+// By hand: no conversion of the library fills up with 0.
 fn telegram_in(s: &[u8]) -> [u8; LONGEST]
     ensures { result ≡ pad longest s.now }
 {
@@ -146,55 +135,37 @@ fn telegram_in(s: &[u8]) -> [u8; LONGEST]
     bytes
 }
 
-// The desk that a block's bytes make.
-#[tactic(auto, unfolding(crate::specs::Desks::desk_at))]
-fn desk_at(block: &[u8]) -> Desk
-    ensures { result ≡ desk_at block.now }
-{
-    Desk {
-        line: byte_at(block, 0),
-        good: byte_at(block, 1) == 1,
-        last: LastTaken(byte_at(block, 2)),
-        t1: four_said(part(block, 4, 4)),
-        kept: wide(byte_at(block, 8)),
-        stored: telegram_in(part(block, STORED, LONGEST)),
-        requested: wanted_at(byte_at(block, 10), part(block, WANTED, RECORD_LENGTH)),
-        queued: wide(byte_at(block, 9)),
-        queue: queue_at(part(block, QUEUE, PLACES * RECORD_LENGTH)),
-        key: byte_at(block, 3),
-    }
-}
+impl Take for Desk {
+    ghost made_of = { desk_at };
 
-// Whether bytes are a desk's block.
-fn is_block(block: &[u8], d: Desk) -> bool
-    ensures { result ≡ same_text (desk_bytes d) block.now }
-{
-    let mut again = [0u8; DESK_LENGTH];
-    put_desk(&mut again, 0, d);
-    same(&again, block)
+    #[tactic(auto, unfolding(crate::specs::Desks::desk_at))]
+    fn take(bytes: &[u8]) -> Desk {
+        Desk {
+            line: byte_at(bytes, 0),
+            good: byte_at(bytes, 1) == 1,
+            last: LastTaken(byte_at(bytes, 2)),
+            t1: four_said(part(bytes, 4, 4)),
+            kept: usize::from(byte_at(bytes, 8)),
+            stored: telegram_in(part(bytes, STORED, LONGEST)),
+            requested: wanted_at(byte_at(bytes, 10), part(bytes, WANTED, RECORD_LENGTH)),
+            queued: usize::from(byte_at(bytes, 9)),
+            queue: take_each(part(bytes, QUEUE, PLACES * RECORD_LENGTH)),
+            key: byte_at(bytes, 3),
+        }
+    }
 }
 
 // The blank desk of line 0, which every call refuses 15.
 fn blank() -> Desk
     ensures { result ≡ fresh 0 }
 {
-    let step = Desk::start(0);
-    step.desk
+    Desk::start(0).desk
 }
 
 // The desk of a block; the blank one where the bytes are no desk's.
+// No Option: load_of promises the blank desk (docs/PROMISES.md, desks::load).
 pub fn load(block: &[u8]) -> Desk
     ensures { result ≡ load_of block.now }
 {
-    let d = desk_at(block);
-    if is_block(block, d) { d } else { blank() }
-}
-
-// Fills a block of just its length with a desk; any other stays as it was.
-pub fn save(d: Desk, block: &mut [u8])
-    ensures { block.new ≡ save_of d block.old }
-{
-    if block.len() == DESK_LENGTH {
-        put_desk(block, 0, d);
-    }
+    layout::load::<Desk, DESK_LENGTH>(block, blank())
 }

@@ -1,13 +1,15 @@
 // A gatherer as a block: its mark, the number of bytes gathered, and the bytes (rules F7, F8, F11).
-ghost use Rattle.std.specs.Prelude.{◌≡◌, ◌+◌, ◌<◌, length};
-ghost use Rattle.text.specs.Putting.{puts};
+ghost use Rattle.std.specs.Prelude.{◌≡◌, ◌+◌, ◌<◌, ◌≤◌, length, IfOk, IfErr};
+ghost use Rattle.characters.specs.Marks.{longest};
+ghost use Rattle.records.specs.declared.refusals.Refusal.TheVariants.{State};
 ghost use Rattle.cutting.specs.Gather.{gathered_of};
 ghost use Rattle.cutting.specs.declared.gather.Item.TheVariants.{Byte, Hit};
-ghost use Rattle.blocks.specs.Gatherers.{gatherer_bytes, save_of, started, count_in, holding_in, gather_in};
+ghost use Rattle.blocks.specs.Gatherers.{gatherer_length, gatherer_bytes, started, count_in, holding_in, gather_in};
 
 use crate::heads::count_byte;
+use crate::layout::Put;
 use characters::marks::LONGEST;
-use characters::slices::{byte_at, wide};
+use characters::slices::byte_at;
 use cutting::gather::{Gathered, Gatherer};
 use cutting::turns::{Turn, turn_of};
 use records::refusals::Refusal;
@@ -16,22 +18,17 @@ use text::putting::{put_byte, put_text};
 // All bytes of a gatherer's block.
 pub const GATHERER_LENGTH: usize = 5 + LONGEST;
 
-// Puts a gatherer's block at a place, and answers the place behind it.
-fn put_gatherer(out: &mut [u8], at: usize, g: Gatherer) -> usize
-    ensures { (result, out.new) ≡ puts (gatherer_bytes g) at out.old }
-{
-    let bytes = g.bytes;
-    let m = put_text(out, at, b"656G");
-    let a = put_byte(out, m, count_byte(g.len));
-    put_text(out, a, &bytes)
-}
+impl Put for Gatherer {
+    const LENGTH: usize = GATHERER_LENGTH;
 
-// Fills a block of just its length with a gatherer; any other stays as it was.
-pub fn save(g: Gatherer, block: &mut [u8])
-    ensures { block.new ≡ save_of g block.old }
-{
-    if block.len() == GATHERER_LENGTH {
-        put_gatherer(block, 0, g);
+    ghost LENGTH = { gatherer_length };
+
+    ghost bytes_of = { gatherer_bytes };
+
+    fn put(self, out: &mut [u8], at: usize) -> usize {
+        let m = put_text(out, at, b"656G");
+        let a = put_byte(out, m, count_byte(self.len));
+        put_text(out, a, &self.bytes)
     }
 }
 
@@ -40,19 +37,7 @@ pub fn save(g: Gatherer, block: &mut [u8])
 fn is_started(block: &[u8]) -> bool
     ensures { result ≡ started block.now }
 {
-    if block.len() != GATHERER_LENGTH {
-        return false;
-    }
-    if block[0] != b'6' {
-        return false;
-    }
-    if block[1] != b'5' {
-        return false;
-    }
-    if block[2] != b'6' {
-        return false;
-    }
-    block[3] == b'G'
+    block.len() == GATHERER_LENGTH && block.starts_with(b"656G")
 }
 
 // The number of bytes gathered; 66, which no gatherer in its ranges has, where the block was never started.
@@ -61,9 +46,22 @@ fn count_in(block: &[u8]) -> usize
     ensures { result ≡ count_in block.now }
 {
     if is_started(block) {
-        wide(byte_at(block, 4))
+        usize::from(byte_at(block, 4))
     } else {
         LONGEST
+    }
+}
+
+// The number of bytes gathered; 15 where it is out of its range, as that of a block that was never started.
+fn gathered_in(block: &[u8]) -> Result<usize, Refusal>
+    ensures few { IfOk result (λ len. (len ≡ count_in block.now) × (len < longest)) }
+    ensures many { IfErr result (λ refusal. (refusal ≡ State) × (longest ≤ count_in block.now)) }
+{
+    let len = count_in(block);
+    if len < LONGEST {
+        Ok(len)
+    } else {
+        Err(Refusal::State)
     }
 }
 
@@ -77,26 +75,23 @@ fn put(block: &mut [u8], count: u8, at: usize, byte: u8)
 }
 
 // One byte on a gatherer's block: of its bytes a step changes at most the count and one other.
+// Not Gatherer::gather between a load and a save: that would take and put all bytes of the block for each byte heard.
 pub fn gather_byte(block: &mut [u8], byte: u8) -> Gathered
     ensures { (gathered_of result, block.new) ≡ gather_in block.old (Byte byte) }
 {
-    let len = count_in(block);
-    if LONGEST <= len {
-        return Gathered::Refused(Refusal::State);
-    }
-    let turn = turn_of(len, byte);
-    match turn {
+    let len = gathered_in(block)?;
+    match turn_of(len, byte) {
         Turn::Joins(at) => {
             put(block, (at + 1) as u8, at, byte);
-            Gathered::Nothing
+            Ok(None)
         }
         Turn::Ends(at) => {
             put(block, 0, at, byte);
-            Gathered::Telegram(at + 1)
+            Ok(Some(at + 1))
         }
         Turn::Drops => {
             block[4] = 0;
-            Gathered::Nothing
+            Ok(None)
         }
     }
 }
@@ -105,10 +100,7 @@ pub fn gather_byte(block: &mut [u8], byte: u8) -> Gathered
 pub fn gather_hit(block: &mut [u8]) -> Gathered
     ensures { (gathered_of result, block.new) ≡ gather_in block.old Hit }
 {
-    let len = count_in(block);
-    if LONGEST <= len {
-        return Gathered::Refused(Refusal::State);
-    }
+    gathered_in(block)?;
     block[4] = 0;
-    Gathered::Nothing
+    Ok(None)
 }

@@ -1,4 +1,5 @@
 // What the blocks of states share: counts, truths, and the four bytes that both ends begin with.
+// put_ functions and no Display, as layout.rt says.
 ghost use Rattle.std.specs.Prelude.{◌≡◌};
 ghost use Rattle.text.specs.Putting.{puts};
 ghost use Rattle.blocks.specs.Heads.{count_byte, flag_byte, head_bytes};
@@ -9,14 +10,14 @@ use text::putting::put_byte;
 pub fn count_byte(n: usize) -> u8
     ensures { result ≡ count_byte n }
 {
-    if n < 256 { n as u8 } else { 255 }
+    u8::try_from(n).unwrap_or(255)
 }
 
 // 1 or 0.
 pub fn flag_byte(on: bool) -> u8
     ensures { result ≡ flag_byte on }
 {
-    if on { 1 } else { 0 }
+    u8::from(on)
 }
 
 // Puts an end's line, whether it is good, its number and one byte more.

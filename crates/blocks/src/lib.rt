@@ -4,6 +4,7 @@
 pub mod desks;
 pub mod gatherers;
 pub mod heads;
+pub mod layout;
 pub mod masters;
 pub mod numbers;
 pub mod record;

@@ -1,9 +1,7 @@
 -- What `list_part` leaves in the output, and what is left to list (rule P2). Assumes nothing.
 use Rattle.std.proofs.Common.{◌≡◌, ℕ, ◌+◌, ◌-◌, ◌<◌, ◌≤◌, Bool, true, false, cond, leb, List, [], ◌∷◌, ◌++◌, length, take, drop, sym, refl, ap, ◌∙◌, append_assoc, arith, length-append, leb-false}
 use Rattle.laws.proofs.Truths.{clash}
-use Rattle.cutting.specs.declared.search.Span.{Span}
-use Rattle.cutting.specs.declared.search.Span.TheVariants.{Found, Nothing}
-use Rattle.cutting.specs.Search.{span_of}
+use Rattle.cutting.specs.Search.{Span, Found, Nothing, span_of}
 use Rattle.captures.specs.declared.part.Listed.{Listed}
 use Rattle.text.specs.Putting.{placed}
 use Rattle.text.proofs.Puts.{put-length, put-take, put-drop}

@@ -4,30 +4,28 @@ use Rattle.std.proofs.Common.{length, drop, sym, refl, ap, ◌∙◌, append-nil
 use borrow.Rule.Slice.PartMut.{put_mid, mid_of}
 use Rattle.records.specs.Refusals.{no}
 use Rattle.records.specs.Answers.{Outcome, written, refused, answer_of, outcome_of, Write}
+use Rattle.std.specs.Prelude.{Result}
+use Rattle.records.specs.declared.answers.Numbered.{Numbered}
+use Rattle.records.specs.declared.refusals.Refusal.{Refusal}
 use Rattle.reading.specs.Reading.{reading_of}
-use Rattle.records.specs.declared.answers.Reading.{Reading}
-use Rattle.records.specs.declared.answers.Writing.{Writing}
-use Rattle.cutting.specs.declared.search.Span.{Span}
-use Rattle.cutting.specs.declared.search.Span.TheVariants.{Found, Nothing}
-use Rattle.cutting.specs.Search.{span_of, part_of}
+use Rattle.cutting.specs.Search.{Span, Found, Nothing, span_of, part_of}
 use Rattle.text.specs.Putting.{placed}
 use Rattle.pieces.specs.Counts.{wrapped}
 use Rattle.captures.specs.Listing.{line_room, putting, line_put}
-use Rattle.captures.specs.Part.{spans_of, line_at, next_for, next_at, next_line_of, stopped, listed_in}
+use Rattle.captures.specs.Part.{spans_of, line_at, NextLine, put, full, none_left, next_for, next_at, next_line_of, stopped, listed_in}
 use Rattle.captures.proofs.Spans.{found_within, spans_step}
-use Rattle.captures.specs.declared.part.NextLine as next
 
 -- what putting a telegram's line does
 module _ (line ordinal base : ℕ) (s : List ℕ) (place : ℕ) (out : List ℕ) where
-  pub one-put : (start end offset : ℕ) (part : List ℕ) (reading : Reading) (put : Writing) (x : List ℕ) (outcome : Outcome)
+  pub one-put : (start end offset : ℕ) (part : List ℕ) (reading : Result Numbered Refusal) (done : Result ℕ Refusal) (x : List ℕ) (outcome : Outcome)
       → span_of s place ≡ Found start end → offset ≡ wrapped (base + start) → part ≡ part_of s (Found start end) → answer_of reading ≡ reading_of line part
-      → (outcome_of put, x) ≡ line_put ordinal offset (answer_of reading) out → outcome_of put ≡ outcome
+      → (outcome_of done, x) ≡ line_put ordinal offset (answer_of reading) out → outcome_of done ≡ outcome
       → (next_for end outcome, x) ≡ next_line_of line ordinal base s place out
   unfolding next_line_of line_at
-  one-put start end offset part reading put x outcome f o p a e g =
+  one-put start end offset part reading done x outcome f o p a e g =
       let r : answer_of reading ≡ reading_of line (part_of s (Found start end)) = a ∙ ap (reading_of line) p in
       let w : (outcome, x) ≡ putting (line_at line ordinal base s (start, end)) out = ap {B = Write} (λ (y : Outcome). (y, x)) (sym g) ∙ e ∙ rw (o, r) in
-      rw f (ap {B = next.NextLine × List ℕ} (λ (y : Write). (next_for end y.0, y.1)) w)
+      rw f (ap {B = NextLine × List ℕ} (λ (y : Write). (next_for end y.0, y.1)) w)
 
 -- the first of the lines, where there is room for it
 first-line : (line ordinal base : ℕ) (s : List ℕ) (place : ℕ) (out : List ℕ) (filled start end : ℕ) → span_of s place ≡ Found start end
@@ -59,12 +57,12 @@ module _ (line ordinal base : ℕ) (s : List ℕ) (place : ℕ) (out : List ℕ)
       rw (n, append-nil x, e, left_is, drop-drop (length t) filled out)
 
   -- what a step says of how the lines go on
-  abbrev pub Told : next.NextLine → List ℕ → Type 0
-  Told (next.TheVariants.Line end n) x =
+  abbrev pub Told : NextLine → List ℕ → Type 0
+  Told (put end n) x =
       (place < end) × (end ≤ length s) × (length x ≡ length left → filled + n ≤ length out)
       × (listed_in line base s (spans_of s end) end (wrapped (ordinal + 1)) (filled + n) (put_mid filled (length out - filled) out x) ≡ listed_in line base s (spans_of s place) place ordinal filled out)
-  Told next.TheVariants.Full x = (stopped place ordinal filled false, put_mid filled (length out - filled) out x) ≡ listed_in line base s (spans_of s place) place ordinal filled out
-  Told next.TheVariants.Nothing x = (stopped place ordinal filled true, put_mid filled (length out - filled) out x) ≡ listed_in line base s (spans_of s place) place ordinal filled out
+  Told full x = (stopped place ordinal filled false, put_mid filled (length out - filled) out x) ≡ listed_in line base s (spans_of s place) place ordinal filled out
+  Told none_left x = (stopped place ordinal filled true, put_mid filled (length out - filled) out x) ≡ listed_in line base s (spans_of s place) place ordinal filled out
 
   same_left : put_mid filled (length out - filled) out left ≡ out
   unfolding placed
@@ -93,7 +91,7 @@ module _ (line ordinal base : ℕ) (s : List ℕ) (place : ℕ) (out : List ℕ)
           )
       go false q = rw same_left (sym (room false q))
 
-  none : span_of s place ≡ Nothing → Told next.TheVariants.Nothing left
+  none : span_of s place ≡ Nothing → Told none_left left
   unfolding listed_in
   none h = rw (same_left, spans_step s place, h)
 
@@ -101,9 +99,9 @@ module _ (line ordinal base : ℕ) (s : List ℕ) (place : ℕ) (out : List ℕ)
   told_at (Found start end) h = found start end h
   told_at Nothing h = none h
 
-  pub told : (r q : next.NextLine) (x : List ℕ) → (r, x) ≡ next_line_of line ordinal base s place left → r ≡ q → Told q x
+  pub told : (r q : NextLine) (x : List ℕ) → (r, x) ≡ next_line_of line ordinal base s place left → r ≡ q → Told q x
   unfolding next_line_of
-  told r q x e h = go (q, x) (ap {B = next.NextLine × List ℕ} (λ (y : next.NextLine). (y, x)) (sym h) ∙ e)
+  told r q x e h = go (q, x) (ap {B = NextLine × List ℕ} (λ (y : NextLine). (y, x)) (sym h) ∙ e)
     where
-      go : (y : next.NextLine × List ℕ) → y ≡ next_at line ordinal base s (span_of s place) left → Told y.0 y.1
+      go : (y : NextLine × List ℕ) → y ≡ next_at line ordinal base s (span_of s place) left → Told y.0 y.1
       go y f = rw f (told_at (span_of s place) refl)

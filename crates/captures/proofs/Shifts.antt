@@ -2,10 +2,8 @@
 use Rattle.std.proofs.Common.{◌≡◌, ℕ, zero, suc, ◌+◌, ◌-◌, ◌≤◌, List, [], ◌∷◌, ◌++◌, length, drop, refl, ap, ◌∙◌, ap₂, arith, length-drop, drop-drop}
 use Rattle.cutting.specs.declared.turns.Turn.{Turn}
 use Rattle.cutting.specs.declared.turns.Turn.TheVariants.{Joins, Ends, Drops}
-use Rattle.cutting.specs.declared.search.Span.{Span}
-use Rattle.cutting.specs.declared.search.Span.TheVariants.{Found, Nothing}
 use Rattle.cutting.specs.Turns.{turn_of}
-use Rattle.cutting.specs.Search.{on_turn, cut_from, span_of}
+use Rattle.cutting.specs.Search.{Span, Found, Nothing, on_turn, cut_from, span_of}
 use Rattle.cutting.proofs.Cases.{joins_at, ends_at}
 use Rattle.pieces.specs.Counts.{wrapped}
 use Rattle.captures.specs.Part.{spanning, spans_on, spans_of, line_at, lines_in, lines_of}

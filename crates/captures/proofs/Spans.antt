@@ -1,8 +1,6 @@
 -- The telegrams that repeated searching finds, one search after the other. Assumes nothing.
 use Rattle.std.proofs.Common.{◌≡◌, ℕ, zero, suc, ◌+◌, ◌≤◌, List, ◌∷◌, length, refl, ap, arith}
-use Rattle.cutting.specs.declared.search.Span.{Span}
-use Rattle.cutting.specs.declared.search.Span.TheVariants.{Found, Nothing}
-use Rattle.cutting.specs.Search.{span_of}
+use Rattle.cutting.specs.Search.{Span, Found, Nothing, span_of}
 use Rattle.cutting.proofs.Steps.{none_left}
 use Rattle.cutting.specs.Telegrams.{FirstTelegram}
 use Rattle.cutting.proofs.First.{span-first}

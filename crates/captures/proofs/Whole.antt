@@ -4,9 +4,7 @@ use lib.ListN.{get_or-append}
 use lib.Seq.{take-append-le, drop-append-le}
 use Rattle.laws.proofs.Passes.{order}
 use Rattle.characters.specs.Marks.{unfinished}
-use Rattle.cutting.specs.declared.search.Span.{Span}
-use Rattle.cutting.specs.declared.search.Span.TheVariants.{Found, Nothing}
-use Rattle.cutting.specs.Search.{span_of}
+use Rattle.cutting.specs.Search.{Span, Found, Nothing, span_of}
 use Rattle.cutting.specs.Telegrams.{Telegram, FirstTelegram}
 use Rattle.cutting.proofs.First.{span-first, search-answers}
 use Rattle.pieces.specs.Counts.{wrapped}

@@ -1,16 +1,15 @@
 -- The lines of a slice's telegrams (rules P2, P5), and what is kept of a slice for the next piece. Assumes nothing.
-use Rattle.std.specs.Prelude.{ℕ, zero, suc, ◌+◌, ◌-◌, max, Bool, true, false, cond, List, [], ◌∷◌, ◌++◌, length, nat_le}
+use Rattle.std.specs.Prelude.{ℕ, zero, suc, ◌+◌, ◌-◌, max, Bool, true, false, cond, List, [], ◌∷◌, ◌++◌, length, nat_le, Option, None, Some, Result, Ok, Err}
 use Rattle.characters.specs.Marks.{unfinished}
 use Rattle.records.specs.Answers.{Outcome, written, refused}
 use Rattle.reading.specs.Reading.{reading_of}
-use Rattle.cutting.specs.declared.search.Span.{Span}
-use Rattle.cutting.specs.declared.search.Span.TheVariants.{Found, Nothing}
-use Rattle.cutting.specs.Search.{span_of, part_of}
+use Rattle.cutting.specs.Search.{Span, Found, Nothing, span_of, part_of}
 use Rattle.captures.specs.declared.part.Listed.{Listed}
 use Rattle.text.specs.Putting.{placed}
 use Rattle.pieces.specs.Counts.{wrapped}
 use Rattle.captures.specs.Listing.{line_text, line_room, putting}
-use Rattle.captures.specs.declared.part.NextLine as next
+use Rattle.records.specs.declared.refusals.Refusal.{Refusal}
+use Rattle.captures.specs.declared.part.Line.{Line}
 
 -- what a search finds, before what later searches find from its end on
 abbrev pub spanning : Span → (ℕ → List (ℕ × ℕ)) → List (ℕ × ℕ)
@@ -38,17 +37,28 @@ lines_in line ordinal base s (p ∷ ps) = line_at line ordinal base s p ++ lines
 unfoldable pub lines_of : ℕ → ℕ → ℕ → List ℕ → ℕ → List ℕ
 lines_of line ordinal base s place = lines_in line ordinal base s (spans_of s place)
 
--- the line of the next telegram, from the front of an output
-abbrev pub next_for : ℕ → Outcome → next.NextLine
-next_for end (written n) = next.TheVariants.Line end n
-next_for end (refused x) = next.TheVariants.Full
+-- what the next telegram's line is: of so many bytes, for a telegram that ends at a place; or it has no room, or none is left
+pub data NextLine : Type 0 where
+  put : ℕ → ℕ → NextLine
+  full : NextLine
+  none_left : NextLine
 
-abbrev pub next_at : ℕ → ℕ → ℕ → List ℕ → Span → List ℕ → next.NextLine × List ℕ
+abbrev pub next_of : Result (Option Line) Refusal → NextLine
+next_of (Ok (Some line)) = put line.end line.len
+next_of (Ok None) = none_left
+next_of (Err x) = full
+
+-- the line of the next telegram, from the front of an output
+abbrev pub next_for : ℕ → Outcome → NextLine
+next_for end (written n) = put end n
+next_for end (refused x) = full
+
+abbrev pub next_at : ℕ → ℕ → ℕ → List ℕ → Span → List ℕ → NextLine × List ℕ
 next_at line ordinal base s (Found start end) out =
     (next_for end (putting (line_at line ordinal base s (start, end)) out).0, (putting (line_at line ordinal base s (start, end)) out).1)
-next_at line ordinal base s Nothing out = (next.TheVariants.Nothing, out)
+next_at line ordinal base s Nothing out = (none_left, out)
 
-unfoldable pub next_line_of : ℕ → ℕ → ℕ → List ℕ → ℕ → List ℕ → next.NextLine × List ℕ
+unfoldable pub next_line_of : ℕ → ℕ → ℕ → List ℕ → ℕ → List ℕ → NextLine × List ℕ
 next_line_of line ordinal base s place out = next_at line ordinal base s (span_of s place) out
 
 -- how far a listing got

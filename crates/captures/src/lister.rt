@@ -8,12 +8,15 @@ use characters::marks::LONGEST;
 use characters::slices::byte_at;
 use forms::lines::is_line;
 use pieces::line::line_named;
+use pieces::turns::Needs;
 use pieces::wants::Wants;
-use records::answers::Check;
 use records::refusals::Refusal;
 
 // Between two turns: the line, 0 before its digit is known; how many bytes are held in front of the buffer; where among them the listing goes on; the next
 // telegram's ordinal; the offset of the first byte held.
+// Line 0 is none, here and below, and base 2^64 - 1 is -1: so at_first and place_fits have them (docs/PROMISES.md names Lister::start).
+// held and next are places of the caller's buffer: there is no heap, and each turn lends it.
+// recordings' Replayer has four of the fields: a struct of them is no shorter, since the clauses of both name them one by one.
 #[derive(Clone, Copy)]
 pub struct Lister {
     pub line: u8,
@@ -25,6 +28,7 @@ pub struct Lister {
 }
 
 // What a turn does: it lists on a line, says that no line is named, or has nothing left to list.
+// Three outcomes, so no Option of a line; an enum and no closure, since the clauses name it (task_for).
 #[derive(Clone, Copy)]
 pub enum Task {
     Lists(u8),
@@ -64,38 +68,22 @@ impl Lister {
         ensures { result ≡ place_fits self }
     {
         if self.line == 0 {
-            if self.held != 0 {
-                return false;
-            }
-            return self.next == 1;
+            return self.held == 0 && self.next == 1;
         }
-        if !is_line(self.line) {
-            return false;
-        }
-        self.next <= self.held
+        is_line(self.line) && self.next <= self.held
     }
 
     // What refuses a turn: 15, then 14.
-    #[tactic(auto, unfolding(pieces::specs::Turns::room_fault))]
-    pub(crate) fn list_check(self, len: usize, got: usize, room: usize) -> Check
+    pub(crate) fn list_check(self, len: usize, got: usize, room: usize) -> Result<(), Refusal>
         ensures { fault_of result ≡ list_fault self len got room }
     {
-        if !self.place_fits() {
-            return Check::Fails(Refusal::State);
-        }
-        if len < self.held {
-            return Check::Fails(Refusal::State);
-        }
-        if len - self.held < got {
-            return Check::Fails(Refusal::State);
-        }
-        if room < LINE_ROOM {
-            return Check::Fails(Refusal::NoRoom);
-        }
-        if len < LONGEST {
-            return Check::Fails(Refusal::NoRoom);
-        }
-        Check::Good
+        let needs = Needs {
+            fits: self.place_fits(),
+            held: self.held,
+            buffer: LONGEST,
+            output: LINE_ROOM,
+        };
+        needs.check(len, got, room)
     }
 
     // The line: the state's, or the one that the first byte names.
@@ -127,8 +115,7 @@ impl Lister {
     pub(crate) fn task(self, got: usize, s: &[u8]) -> Task
         ensures { result ≡ task_for self.wants self got s.now }
     {
-        let wants = self.wants;
-        match wants {
+        match self.wants {
             Wants::Read => self.read_task(got, s),
             Wants::Again => line_task(self.line_for(s)),
             Wants::End => Task::Over,
@@ -136,16 +123,13 @@ impl Lister {
     }
 
     // All is said.
+    // recordings has it of its own state: one field's update each.
     pub(crate) fn ended(self) -> Lister
         ensures { result ≡ ended self }
     {
         Lister {
-            line: self.line,
-            held: self.held,
-            next: self.next,
-            ordinal: self.ordinal,
-            base: self.base,
             wants: Wants::End,
+            ..self
         }
     }
 }

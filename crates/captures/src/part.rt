@@ -1,42 +1,43 @@
 // The lines of a lent slice, and what is kept of it for the next piece of a capture (rules P2, P5).
 ghost use Rattle.std.specs.Prelude.{◌≡◌};
-ghost use Rattle.captures.specs.Part.{next_line_of, list_part, kept_from};
+ghost use Rattle.captures.specs.Part.{next_of, next_line_of, list_part, kept_from};
 
+use crate::lister::Lister;
 use crate::listing::put_line;
 use characters::marks::UNFINISHED;
-use characters::slices::less;
-use cutting::search::{Span, part_of, span_of};
+use cutting::search::{part_of, span_of};
 use reading::reading::read;
-use records::answers::Writing;
+use records::refusals::Refusal;
 
-// What the next telegram's line is: of so many bytes, for a telegram that ends at a place; or it has no room, or none is left.
+// A telegram's line: where the telegram ends, and how many bytes the line has.
 #[derive(Clone, Copy)]
-enum NextLine {
-    Line { end: usize, len: usize },
-    Full,
-    Nothing,
+struct Line {
+    end: usize,
+    len: usize,
 }
 
-// The line of the next telegram, from the front of an output.
+// The line of the next telegram, from the front of an output; None where no telegram is left.
+// No Display, as text::putting says.
 #[tactic(auto, unfolding(crate::specs::Part::next_line_of))]
-fn put_next(line: u8, ordinal: u64, base: u64, s: &[u8], from: usize, out: &mut [u8]) -> NextLine
-    ensures { (result, out.new) ≡ next_line_of line ordinal base s.now from out.old }
+fn put_next(lister: Lister, s: &[u8], out: &mut [u8]) -> Result<Option<Line>, Refusal>
+    ensures { (next_of result, out.new) ≡ next_line_of lister.line lister.ordinal lister.base s.now lister.next out.old }
 {
-    let span = span_of(s, from);
-    match span {
-        Span::Found { start, end } => {
-            let offset = std::num::wrapping_add_u64(base, start as u64);
-            let put = put_line(ordinal, offset, read(line, part_of(s, span)), out);
-            match put {
-                Writing::Written(len) => NextLine::Line { end, len },
-                Writing::Refused(_) => NextLine::Full,
-            }
-        }
-        Span::Nothing => NextLine::Nothing,
-    }
+    let found = span_of(s, lister.next);
+    let Some(span) = found else {
+        return Ok(None);
+    };
+    let offset = std::num::wrapping_add_u64(lister.base, span.start as u64);
+    let len = put_line(
+        lister.ordinal,
+        offset,
+        read(lister.line, part_of(s, found)),
+        out,
+    )?;
+    Ok(Some(Line { end: span.end, len }))
 }
 
-// How far a listing got: the place and ordinal of what comes next, how many bytes of lines there are, and whether no telegram is left.
+// How far a listing got: the place and ordinal of what comes next, how many bytes of lines there are, and whether no telegram is left. No Option by `done`, since
+// the other fields hold either way.
 #[derive(Clone, Copy)]
 pub struct Listed {
     pub next: usize,
@@ -45,44 +46,32 @@ pub struct Listed {
     pub done: bool,
 }
 
-// The lines of the telegrams from a place on, as many as there is room for.
-pub(crate) fn list_part(
-    line: u8,
-    ordinal: u64,
-    base: u64,
-    s: &[u8],
-    from: usize,
-    out: &mut [u8],
-) -> Listed
-    ensures { (result, out.new) ≡ list_part line ordinal base s.now from out.old }
+// The lines of the telegrams from the state's place on, as many as there is room for.
+// recordings' replay_part has this form, but carries a desk and stops in four ways: what both share is the loop.
+pub(crate) fn list_part(lister: Lister, s: &[u8], out: &mut [u8]) -> Listed
+    ensures { (result, out.new) ≡ list_part lister.line lister.ordinal lister.base s.now lister.next out.old }
 {
-    let mut next = from;
-    let mut count = ordinal;
+    let mut at = lister;
     let mut filled: usize = 0;
-    loop {
-        match put_next(line, count, base, s, next, &mut out[filled..]) {
-            NextLine::Line { end, len } => {
-                next = end;
-                count = std::num::wrapping_add_u64(count, 1);
-                filled = filled + len;
-            }
-            NextLine::Full => {
-                return Listed {
-                    next,
-                    ordinal: count,
-                    filled,
-                    done: false,
-                };
-            }
-            NextLine::Nothing => {
-                return Listed {
-                    next,
-                    ordinal: count,
-                    filled,
-                    done: true,
-                };
-            }
-        }
+    // No `for`: each telegram is searched from the end of the one before, and a line without room ends the loop too.
+    while let Ok(found) = put_next(at, s, &mut out[filled..]) {
+        let Some(line) = found else {
+            return Listed {
+                next: at.next,
+                ordinal: at.ordinal,
+                filled,
+                done: true,
+            };
+        };
+        at.next = line.end;
+        at.ordinal = std::num::wrapping_add_u64(at.ordinal, 1);
+        filled = filled + line.len;
+    }
+    Listed {
+        next: at.next,
+        ordinal: at.ordinal,
+        filled,
+        done: false,
     }
 }
 
@@ -90,6 +79,5 @@ pub(crate) fn list_part(
 pub fn kept_from(end: usize, len: usize) -> usize
     ensures { result ≡ kept_from end len }
 {
-    let last = less(len, UNFINISHED);
-    if end < last { last } else { end }
+    end.max(len.saturating_sub(UNFINISHED))
 }

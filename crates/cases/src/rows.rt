@@ -1,9 +1,10 @@
 // The rows: what is expected stands in the last field, and the first row without a byte ends them.
+// Text is put into arrays of fixed size and its front taken by the count that comes back, since there is no heap. rt stands apart, as stdio says.
 ghost use Rattle.std.specs.Prelude.{◌≡◌, length};
 
-use crate::runs;
+use crate::runs::{self, Kind, kind_of};
 use characters::slices::part;
-use stdio::input::{Got, read_full};
+use stdio::input::read_full;
 use stdio::output::write_out;
 use text::compared::put_row;
 use text::fields::field;
@@ -18,25 +19,26 @@ pub(crate) fn output() -> [u8; 65792]
 
 // The last field of a row.
 fn expected(row: &[u8]) -> &[u8] {
-    match runs::kind(row) {
-        b'R' => field(row, b'|', 4),
-        b'W' => field(row, b'|', 7),
-        b'S' => field(row, b'|', 3),
-        _ => field(row, b'|', 2),
-    }
+    let last = match kind_of(row) {
+        Some(Kind::Read) => 4,
+        Some(Kind::Write) => 7,
+        Some(Kind::Sum) => 3,
+        None => 2,
+    };
+    field(row, b'|', last)
 }
 
-// Writes the first n bytes of an output; whether they are written.
-fn say(rt: HostRuntime, out: &[u8], n: usize) -> bool {
+// Writes the first n bytes of an output; None where they cannot be written.
+// n stands beside the output, as write_out takes it.
+fn say(rt: HostRuntime, out: &[u8], n: usize) -> Option<()> {
     write_out(rt, out, n, b"cases: writing")
 }
 
 // Says a row with what came, and counts it; None where it cannot be written.
+// damage has an output of its own size: one function for both would take the program's words too, seven parameters in all.
 fn told(rt: HostRuntime, row: &[u8], came: &[u8], tally: Tally, out: &mut [u8]) -> Option<Tally> {
     let n = put_row(out, 0, field(row, b'|', 0), expected(row), came);
-    if !say(rt, out, n) {
-        return None;
-    }
+    say(rt, out, n)?;
     Some(tally.counted(expected(row), came))
 }
 
@@ -49,9 +51,8 @@ fn one(rt: HostRuntime, row: &[u8], tally: Tally, out: &mut [u8]) -> Option<Tall
 // Row after row, as long as each can be written.
 fn all(rt: HostRuntime, text: &[u8], out: &mut [u8]) -> Option<Tally> {
     let mut tally = Tally::start();
-    for k in 0..65536usize {
-        let row = field(text, b'\n', k);
-        if row.len() == 0 {
+    for row in text.split(|b| *b == b'\n') {
+        if row.is_empty() {
             return Some(tally);
         }
         tally = one(rt, row, tally, out)?;
@@ -59,13 +60,9 @@ fn all(rt: HostRuntime, text: &[u8], out: &mut [u8]) -> Option<Tally> {
     Some(tally)
 }
 
-pub(crate) fn run(rt: HostRuntime, input: &mut [u8], out: &mut [u8]) {
-    let Got::Bytes(n) = read_full(rt, input, b"cases: reading") else {
-        return;
-    };
-    let Some(tally) = all(rt, part(input, 0, n), out) else {
-        return;
-    };
+pub(crate) fn run(rt: HostRuntime, input: &mut [u8], out: &mut [u8]) -> Option<()> {
+    let n = read_full(rt, input, b"cases: reading")?;
+    let tally = all(rt, part(input, 0, n), out)?;
     let end = put_tally(out, 0, tally);
-    say(rt, out, end);
+    say(rt, out, end)
 }

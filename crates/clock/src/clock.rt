@@ -3,10 +3,11 @@ ghost use Rattle.std.specs.Prelude.{◌≡◌};
 ghost use Rattle.clock.specs.Clock.{elapsed_of, run_out};
 
 // Elapsed time is now less start, modulo 2^32.
+// at and start stay two: one is the call's, the other the state's.
 pub fn elapsed(at: u32, start: u32) -> u32
     ensures { result ≡ elapsed_of at start }
 {
-    std::num::wrapping_sub_u32(at, start)
+    at.wrapping_sub(start)
 }
 
 // A timer has run out when elapsed time is at or above its limit.

@@ -1,19 +1,17 @@
 -- The paper's numbers and places tell a step's answers apart (rule G3). Assumes nothing.
+use Rattle.std.specs.Prelude.{None, Some, Ok, Err}
 use mathlib.Core.Path.{◌≡◌, refl}
 use Rattle.records.proofs.Apart.{one-refusal}
 use Rattle.cutting.specs.Gather.{OneGathered}
-use Rattle.cutting.specs.declared.gather.Gathered as g
 
 -- a promise through these definitions allows one answer only
 pub one-gathered : OneGathered
-one-gathered g.TheVariants.Nothing g.TheVariants.Nothing h = refl
-one-gathered g.TheVariants.Nothing (g.TheVariants.Telegram n) h = cc
-one-gathered g.TheVariants.Nothing (g.TheVariants.Refused y) h = cc
-one-gathered (g.TheVariants.Telegram m) g.TheVariants.Nothing h = cc
-one-gathered (g.TheVariants.Telegram m) (g.TheVariants.Telegram n) h = cc
-one-gathered (g.TheVariants.Telegram m) (g.TheVariants.Refused y) h = cc
-one-gathered (g.TheVariants.Refused x) g.TheVariants.Nothing h = cc
-one-gathered (g.TheVariants.Refused x) (g.TheVariants.Telegram n) h = cc
-one-gathered (g.TheVariants.Refused x) (g.TheVariants.Refused y) h =
-    let e : x ≡ y = one-refusal x y (cc) in
-    cc
+one-gathered (Ok None) (Ok None) h = refl
+one-gathered (Ok None) (Ok (Some n)) h = cc
+one-gathered (Ok None) (Err y) h = cc
+one-gathered (Ok (Some m)) (Ok None) h = cc
+one-gathered (Ok (Some m)) (Ok (Some n)) h = cc
+one-gathered (Ok (Some m)) (Err y) h = cc
+one-gathered (Err x) (Ok None) h = cc
+one-gathered (Err x) (Ok (Some n)) h = cc
+one-gathered (Err x) (Err y) h = let e : x ≡ y = one-refusal x y (cc) in cc

@@ -9,10 +9,8 @@ use lib.Seq.{length-take-le}
 use Rattle.laws.proofs.Passes.{order}
 use Rattle.characters.specs.Marks.{lf, cr, unfinished}
 use Rattle.cutting.specs.declared.turns.Turn.{Turn}
-use Rattle.cutting.specs.declared.search.Span.{Span}
-use Rattle.cutting.specs.declared.search.Span.TheVariants.{Found, Nothing}
 use Rattle.cutting.specs.Turns.{Plain, turn_of}
-use Rattle.cutting.specs.Search.{cut_from, span_of, part_of}
+use Rattle.cutting.specs.Search.{Span, Found, Nothing, cut_from, span_of, part_of}
 use Rattle.cutting.specs.Telegrams.{Telegram, FirstTelegram, SearchAnswers, PartLength, EmptyPart}
 use Rattle.cutting.proofs.Cases.{apart, Case, begins, skips, ends, drops, joins, turn-case}
 use Rattle.cutting.proofs.Steps.{none_left, on-ends, on-joins, on-drops}

@@ -5,8 +5,7 @@ use Prim.Native.Nat.{ℕ, ◌+◌, ◌-◌, ◌≤◌, ◌<◌}
 use native.Mathlib.Omega.{arith}
 use lib.ListN.{length, get_or}
 use Rattle.laws.proofs.Passes.{order}
-use Rattle.cutting.specs.declared.search.Span.TheVariants.{Found, Nothing}
-use Rattle.cutting.specs.Search.{span_of}
+use Rattle.cutting.specs.Search.{Found, Nothing, span_of}
 use Rattle.cutting.specs.Looks.{NextCr, NearLf}
 use Rattle.cutting.specs.Turns.{Plain}
 use Rattle.cutting.specs.Telegrams.{Telegram}

@@ -6,9 +6,8 @@ use native.Mathlib.Numerals.{add-one}
 use lib.ListN.{length, drop, get_or, drop_of_length-le}
 use lib.Seq.{drop-cons}
 use Rattle.cutting.specs.declared.turns.Turn.TheVariants.{Joins, Ends, Drops}
-use Rattle.cutting.specs.declared.search.Span.TheVariants.{Found, Nothing}
 use Rattle.cutting.specs.Turns.{turn_of}
-use Rattle.cutting.specs.Search.{on_turn, cut_from}
+use Rattle.cutting.specs.Search.{Found, Nothing, on_turn, cut_from}
 
 -- behind the end none is left
 pub none_left : (s : List ℕ) (len i : ℕ) → length s ≤ i → cut_from (drop i s) len i ≡ Nothing

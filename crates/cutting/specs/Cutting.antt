@@ -1,13 +1,12 @@
 -- The next telegram in bytes, cut and then read (rule C9). Assumes nothing.
-use Rattle.std.specs.Prelude.{ℕ, ◌≡◌, cond, List}
+use Rattle.std.specs.Prelude.{ℕ, ◌≡◌, cond, List, Option, None, Some, Result, Ok, Err}
 use Rattle.records.specs.Refusals.{No, no, refusal_of}
 use Rattle.forms.specs.Lines.{is_line}
 use Rattle.records.specs.Answers.{Answer, answer_of}
 use Rattle.reading.specs.Reading.{reading_of}
-use Rattle.cutting.specs.declared.search.Span.{Span}
-use Rattle.cutting.specs.declared.search.Span.TheVariants.{Found, Nothing}
-use Rattle.cutting.specs.Search.{span_of, part_of}
-use Rattle.cutting.specs.declared.cutting.Cutting as c
+use Rattle.cutting.specs.Search.{Span, Found, Nothing, span_of, part_of}
+use Rattle.cutting.specs.declared.cutting.Cut.{Cut}
+use Rattle.records.specs.declared.refusals.Refusal.{Refusal}
 
 -- what cutting and reading finds: nothing, a telegram from start to end with what it reads as, or a refusal's number and place
 pub data Next : Type 0 where
@@ -15,10 +14,10 @@ pub data Next : Type 0 where
   read : ℕ → ℕ → Answer → Next
   refused : No → Next
 
-abbrev pub cutting_of : c.Cutting → Next
-cutting_of (c.TheVariants.Read start end reading) = read start end (answer_of reading)
-cutting_of c.TheVariants.Nothing = nothing
-cutting_of (c.TheVariants.Refused x) = refused (refusal_of x)
+abbrev pub cutting_of : Result (Option Cut) Refusal → Next
+cutting_of (Ok (Some cut)) = read cut.start cut.end (answer_of cut.reading)
+cutting_of (Ok None) = nothing
+cutting_of (Err x) = refused (refusal_of x)
 
 -- a cut telegram is then read
 abbrev pub read_at : ℕ → List ℕ → Span → Next
@@ -31,4 +30,4 @@ next_of line s from = cond (is_line line) (read_at line s (span_of s from)) (ref
 
 -- a promise through these definitions allows one answer only
 abbrev pub OneCutting : Type 0
-OneCutting = (a b : c.Cutting) → cutting_of a ≡ cutting_of b → a ≡ b
+OneCutting = (a b : Result (Option Cut) Refusal) → cutting_of a ≡ cutting_of b → a ≡ b

@@ -1,5 +1,5 @@
 -- Gathering a telegram item by item (rules C1 to C6, E12). Assumes nothing.
-use Rattle.std.specs.Prelude.{ℕ, ◌+◌, ◌≡◌, cond, leb, set, replicate}
+use Rattle.std.specs.Prelude.{ℕ, ◌+◌, ◌≡◌, cond, leb, set, replicate, Option, None, Some, Result, Ok, Err}
 use Rattle.characters.specs.Marks.{longest}
 use Rattle.records.specs.Refusals.{No, no, refusal_of}
 use Rattle.cutting.specs.declared.turns.Turn.{Turn}
@@ -8,7 +8,7 @@ use Rattle.cutting.specs.declared.gather.Item.{Item}
 use Rattle.cutting.specs.declared.gather.Item.TheVariants.{Byte, Hit}
 use Rattle.cutting.specs.declared.gather.Gatherer.{Gatherer}
 use Rattle.cutting.specs.Turns.{turn_of}
-use Rattle.cutting.specs.declared.gather.Gathered as g
+use Rattle.records.specs.declared.refusals.Refusal.{Refusal}
 
 -- what a step hands out: nothing, a telegram of so many bytes, or a refusal's number and place
 pub data Cut : Type 0 where
@@ -16,10 +16,10 @@ pub data Cut : Type 0 where
   telegram : ℕ → Cut
   refused : No → Cut
 
-abbrev pub gathered_of : g.Gathered → Cut
-gathered_of g.TheVariants.Nothing = nothing
-gathered_of (g.TheVariants.Telegram n) = telegram n
-gathered_of (g.TheVariants.Refused x) = refused (refusal_of x)
+abbrev pub gathered_of : Result (Option ℕ) Refusal → Cut
+gathered_of (Ok None) = nothing
+gathered_of (Ok (Some n)) = telegram n
+gathered_of (Err x) = refused (refusal_of x)
 
 -- the state at the start, outside a telegram
 abbrev pub at_start : Gatherer
@@ -50,4 +50,4 @@ gather_of g item = cond (leb longest g.len) (g, refused (no 15 0)) (on_item g it
 
 -- a promise through these definitions allows one answer only
 abbrev pub OneGathered : Type 0
-OneGathered = (a b : g.Gathered) → gathered_of a ≡ gathered_of b → a ≡ b
+OneGathered = (a b : Result (Option ℕ) Refusal) → gathered_of a ≡ gathered_of b → a ≡ b

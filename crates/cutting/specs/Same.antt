@@ -2,9 +2,7 @@
 use Rattle.std.specs.Prelude.{◌≡◌, List, [], ◌∷◌, ℕ, zero, suc, ◌≤◌, length}
 use Rattle.cutting.specs.Gather.{at_start}
 use Rattle.cutting.specs.Streams.{fed}
-use Rattle.cutting.specs.declared.search.Span.{Span}
-use Rattle.cutting.specs.declared.search.Span.TheVariants.{Found, Nothing}
-use Rattle.cutting.specs.Search.{span_of, part_of}
+use Rattle.cutting.specs.Search.{Span, Found, Nothing, span_of, part_of}
 
 -- what a search finds, before what later searches do from its end on
 abbrev pub finding : List ℕ → Span → (ℕ → List (List ℕ)) → List (List ℕ)

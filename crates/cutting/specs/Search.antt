@@ -1,10 +1,22 @@
 -- The search for the next telegram in bytes (rules C7, C9). Assumes nothing.
-use Rattle.std.specs.Prelude.{ℕ, ◌+◌, ◌-◌, List, [], ◌∷◌, length, take, drop}
+use Rattle.std.specs.Prelude.{◌≡◌, ℕ, ◌+◌, ◌-◌, List, [], ◌∷◌, length, take, drop, Option, None, Some}
 use Rattle.cutting.specs.declared.turns.Turn.{Turn}
 use Rattle.cutting.specs.declared.turns.Turn.TheVariants.{Joins, Ends, Drops}
-use Rattle.cutting.specs.declared.search.Span.{Span}
-use Rattle.cutting.specs.declared.search.Span.TheVariants.{Found, Nothing}
+use Rattle.cutting.specs.declared.search.Span as s
 use Rattle.cutting.specs.Turns.{turn_of}
+
+-- a telegram from its LF at a place to behind its CR, or none
+pub data Span : Type 0 where
+  Found : ℕ → ℕ → Span
+  Nothing : Span
+
+abbrev pub found_of : Option s.Span → Span
+found_of (Some span) = Found span.start span.end
+found_of None = Nothing
+
+-- a promise through this definition allows one span only
+abbrev pub OneSpan : Type 0
+OneSpan = (a b : Option s.Span) → found_of a ≡ found_of b → a ≡ b
 
 -- what the turn of the byte at place i finds, or how the search goes on with so many bytes gathered
 abbrev pub on_turn : Turn → ℕ → (ℕ → Span) → Span

@@ -2,9 +2,7 @@
 use Rattle.std.specs.Prelude.{◌≡◌, ◌↔◌, List, [], ℕ, ◌+◌, ◌-◌, ◌≤◌, ◌<◌, length, get_or}
 use Rattle.characters.specs.Marks.{lf, cr, longest}
 use Rattle.cutting.specs.Turns.{Plain}
-use Rattle.cutting.specs.declared.search.Span.{Span}
-use Rattle.cutting.specs.declared.search.Span.TheVariants.{Found, Nothing}
-use Rattle.cutting.specs.Search.{span_of, part_of}
+use Rattle.cutting.specs.Search.{Span, Found, Nothing, span_of, part_of}
 
 -- a telegram stands at [o, e) just where byte o is LF, byte e - 1 is CR, neither stands between, and it has at most 66 bytes
 pub record Telegram (s : List ℕ) (o e : ℕ) : Type 0 where

@@ -9,13 +9,15 @@ use characters::marks::LONGEST;
 use records::refusals::Refusal;
 
 // A heard item is a byte or a hit.
+// No Option of a byte: a hit is heard too, and drops what was begun.
 #[derive(Clone, Copy)]
 pub enum Item {
     Byte(u8),
     Hit,
 }
 
-// The bytes gathered so far and their number: 0 outside a telegram.
+// The bytes gathered so far and their number: 0 outside a telegram, as turn_of has it.
+// Fixed memory with a length beside: there is no heap, and the C interface's gatherer (IN656_GATHERER_LENGTH) holds both.
 #[derive(Clone, Copy)]
 pub struct Gatherer {
     pub bytes: [u8; LONGEST],
@@ -23,14 +25,10 @@ pub struct Gatherer {
 }
 
 // A step hands out nothing, or a telegram of so many bytes, or refuses.
-#[derive(Clone, Copy)]
-pub enum Gathered {
-    Nothing,
-    Telegram(usize),
-    Refused(Refusal),
-}
+pub type Gathered = Result<Option<usize>, Refusal>;
 
 // The state behind a step, which holds a telegram's bytes at its front, beside the answer.
+// Named by its state, as desk::state::Step says.
 #[derive(Clone, Copy)]
 pub struct Step {
     pub gatherer: Gatherer,
@@ -53,40 +51,31 @@ impl Gatherer {
         requires { at < longest }
         ensures { result ≡ holding self at byte len }
     {
-        let mut bytes = self.bytes;
-        bytes[at] = byte;
-        Gatherer { bytes, len }
+        let mut next = Gatherer { len, ..self };
+        next.bytes[at] = byte;
+        next
     }
 
     // Outside a telegram, the bytes as they are.
     fn close(self) -> Gatherer
         ensures { result ≡ shut self }
     {
-        let bytes = self.bytes;
-        Gatherer { bytes, len: 0 }
+        Gatherer { len: 0, ..self }
     }
 
     // One byte.
+    // blocks does the same on a block that is lent: what both share is the rule, turn_of.
     #[tactic(auto, unfolding(crate::specs::Turns::turn_of))]
     fn gather_byte(self, byte: u8) -> Step
         requires { self.len < longest }
         ensures { (result.gatherer, gathered_of result.answer) ≡ turned self byte (turn_of self.len byte) }
     {
-        let turn = turn_of(self.len, byte);
-        match turn {
-            Turn::Joins(at) => Step {
-                gatherer: self.put(at, byte, at + 1),
-                answer: Gathered::Nothing,
-            },
-            Turn::Ends(at) => Step {
-                gatherer: self.put(at, byte, 0),
-                answer: Gathered::Telegram(at + 1),
-            },
-            Turn::Drops => Step {
-                gatherer: self.close(),
-                answer: Gathered::Nothing,
-            },
-        }
+        let (gatherer, answer) = match turn_of(self.len, byte) {
+            Turn::Joins(at) => (self.put(at, byte, at + 1), Ok(None)),
+            Turn::Ends(at) => (self.put(at, byte, 0), Ok(Some(at + 1))),
+            Turn::Drops => (self.close(), Ok(None)),
+        };
+        Step { gatherer, answer }
     }
 
     // One item: 15 where the state is out of its ranges; a hit drops what was begun.
@@ -97,18 +86,15 @@ impl Gatherer {
         if LONGEST <= self.len {
             return Step {
                 gatherer: self,
-                answer: Gathered::Refused(Refusal::State),
+                answer: Err(Refusal::State),
             };
         }
         match item {
             Item::Byte(byte) => self.gather_byte(byte),
-            Item::Hit => {
-                let dropped = self.close();
-                Step {
-                    gatherer: dropped,
-                    answer: Gathered::Nothing,
-                }
-            }
+            Item::Hit => Step {
+                gatherer: self.close(),
+                answer: Ok(None),
+            },
         }
     }
 }

@@ -4,6 +4,7 @@ ghost use Rattle.cutting.specs.Turns.{turn_of};
 
 use characters::marks::{CR, LF, UNFINISHED};
 
+// Three outcomes, so no Option of an index.
 #[derive(Clone, Copy)]
 pub enum Turn {
     // The byte is of the telegram, at this index: LF at 0.

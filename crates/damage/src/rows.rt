@@ -1,4 +1,6 @@
 // The rows: how many readings are as the rules give them, of how many.
+// Text is put into arrays of fixed size, not made by a Display, and its front taken by the count that comes back: there is no heap.
+// rt stands apart, as stdio says.
 use crate::telegrams;
 use characters::slices::part;
 use stdio::output::write_out;
@@ -8,12 +10,11 @@ use text::putting::put_text;
 use text::tally::{Tally, put_tally};
 
 // Says a row, and counts it; None where it cannot be written.
+// cases has an output of its own size: one function for both would take the program's words too, seven parameters in all.
 fn told(rt: HostRuntime, name: &[u8], expected: &[u8], came: &[u8], tally: Tally) -> Option<Tally> {
     let mut out = [0u8; 256];
     let n = put_row(&mut out, 0, name, expected, came);
-    if !write_out(rt, &out, n, b"damage: writing") {
-        return None;
-    }
+    write_out(rt, &out, n, b"damage: writing")?;
     Some(tally.counted(expected, came))
 }
 
@@ -40,44 +41,67 @@ fn put_name(out: &mut [u8], index: usize, how: &[u8]) -> usize {
 }
 
 // The row of one byte, which takes each of 256 values.
-fn byte_row(rt: HostRuntime, index: usize, right: bool, how: &[u8], tally: Tally) -> Option<Tally> {
+fn byte_row<F: Fn(usize, u8) -> bool>(
+    rt: HostRuntime,
+    index: usize,
+    as_due: &F,
+    how: &[u8],
+    tally: Tally,
+) -> Option<Tally>
+    requires { F.IsAlwaysCallable as_due.now }
+{
     let mut name = [0u8; 64];
     let n = put_name(&mut name, index, how);
     row(
         rt,
         part(&name, 0, n),
-        telegrams::all(index, right),
+        telegrams::all(index, as_due),
         256,
         tally,
     )
 }
 
-fn byte_rows(
+// A `for` over the indices, since each is said and passed on, and the tally goes on.
+fn byte_rows<F: Fn(usize, u8) -> bool>(
     rt: HostRuntime,
     from: usize,
     to: usize,
-    right: bool,
+    as_due: &F,
     how: &[u8],
     tally: Tally,
-) -> Option<Tally> {
+) -> Option<Tally>
+    requires { F.IsAlwaysCallable as_due.now }
+{
     let mut t = tally;
     for index in from..to {
-        t = byte_row(rt, index, right, how, t)?;
+        t = byte_row(rt, index, as_due, how, t)?;
     }
     Some(t)
 }
 
 fn all(rt: HostRuntime) -> Option<Tally> {
-    let a = byte_rows(rt, 0, 23, false, b" replaced", Tally::start())?;
-    let b = byte_rows(rt, 3, 20, true, b" replaced, sum made right", a)?;
+    let a = byte_rows(
+        rt,
+        0,
+        23,
+        &telegrams::replaced_as_due,
+        b" replaced",
+        Tally::start(),
+    )?;
+    let b = byte_rows(
+        rt,
+        3,
+        20,
+        &telegrams::righted_as_due,
+        b" replaced, sum made right",
+        a,
+    )?;
     row(rt, b"lengths 0 to 4095", telegrams::lengths(), 4096, b)
 }
 
-pub(crate) fn run(rt: HostRuntime) {
-    let Some(tally) = all(rt) else {
-        return;
-    };
+pub(crate) fn run(rt: HostRuntime) -> Option<()> {
+    let tally = all(rt)?;
     let mut out = [0u8; 64];
     let n = put_tally(&mut out, 0, tally);
-    write_out(rt, &out, n, b"damage: writing");
+    write_out(rt, &out, n, b"damage: writing")
 }

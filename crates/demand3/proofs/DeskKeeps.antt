@@ -20,7 +20,7 @@ use Rattle.writing.specs.Writing.{telegram_of, sent_of}
 use Rattle.writing.proofs.Trips.{written-reads}
 use Rattle.characters.specs.Marks.{longest}
 use Rattle.desk.specs.Deciding.{What, Ruling, silent, fault, repeat, handle, answers_with}
-use Rattle.desk.proofs.Numbers.{ruling-number}
+use Rattle.desk.proofs.Numbers.{ruling_number}
 use Rattle.desk.proofs.Permitted.{fault-permitted}
 use Rattle.master.specs.Rules.{is_failure}
 use Rattle.conduct.proofs.Master.Calls.{rejects}
@@ -160,7 +160,7 @@ module _ (line : ℕ) (d : Desk) (i : Fine line d) (at : ℕ) (bytes out : List 
     keeps-fine i (k.hear-keeps d i.fine at bytes out),
     split (Lawful line d bytes) (in_ranges d)
         (λ _. split (Lawful line d bytes) (leb longest (length out))
-        (λ _. applied (ruling noted bytes) (settled noted bytes) (ruling-number noted.line noted.good noted.last.0 bytes))
+        (λ _. applied (ruling noted bytes) (settled noted bytes) (ruling_number noted.line noted.good noted.last.0 bytes))
         (λ _. (dview d, First.stays, DHears.mute)))
         (λ e. clash (sym e ∙ i.fine.ranged)),
   )

@@ -21,7 +21,7 @@ use Rattle.master.specs.State.{is_free, sendable, in_ranges, with_line, start_of
 use Rattle.master.specs.Sending.{Behind, sending_of, offer_of, tick_of}
 use Rattle.master.specs.Hearing.{hear_of}
 use Rattle.master.specs.declared.state.Master.{Master}
-use Rattle.master.proofs.Ranges.{numbered, sendable-permits}
+use Rattle.master.proofs.Ranges.{numbered, sendable_permits}
 use Rattle.conduct.specs.Master.Calls.{Call, offers, ticks, hears, call_time, output_of, after, FirstSending, offered, polled}
 use Rattle.conduct.proofs.Master.Calls.{rejects, brings, Quiet, barred, idle, unheard, Ends, permitted, strange, Does, stays, begins, repeats, ends, gives_up, does}
 use Rattle.conduct.proofs.Master.Kept.{keeps, start-ranged}
@@ -51,7 +51,7 @@ pub record Fine (line : ℕ) (m : Master) : Type 0 where
 from-master : (line : ℕ) (rec : Record) (number : ℕ) → sendable line rec ≡ true → number < 2 → FromMaster line (telegram_of line rec number)
 unfolding sendable
 from-master line rec number s n =
-    (rec, number, written-reads line rec number (sendable-permits line rec s) n, both_left (by_master line (type_of rec)) (permits_record line rec) s)
+    (rec, number, written-reads line rec number (sendable_permits line rec s) n, both_left (by_master line (type_of rec)) (permits_record line rec) s)
 
 -- the call hears
 abbrev Hears : Call → Type 0
@@ -81,10 +81,10 @@ module _ (m : Master) (h : in_ranges m ≡ true) where
   acted call turn n (stays told q) = rw (quiet [] told (output_of call) q) MActs.rests
   acted call turn n (begins sending rec offered f s r) =
       rw (f, sent-bytes rec (output_of call))
-      (MActs.sends (written-good m.line rec m.number.0 (sendable-permits m.line rec s) (numbered m h)) (from-master m.line rec m.number.0 s (numbered m h)))
+      (MActs.sends (written-good m.line rec m.number.0 (sendable_permits m.line rec s) (numbered m h)) (from-master m.line rec m.number.0 s (numbered m h)))
   acted call turn n (begins sending rec polled f s r) =
       rw (f, sent-bytes rec (output_of call))
-      (MActs.sends (written-good m.line rec m.number.0 (sendable-permits m.line rec s) (numbered m h)) (from-master m.line rec m.number.0 s (numbered m h)))
+      (MActs.sends (written-good m.line rec m.number.0 (sendable_permits m.line rec s) (numbered m h)) (from-master m.line rec m.number.0 s (numbered m h)))
   acted call turn n (repeats g f x r) =
       rw (f, resent-view g (call_time call) (output_of call), sent-bytes m.rec (output_of call)) MActs.resends
   acted call turn n (ends told o e f (brings a b)) = absurd (n tt)

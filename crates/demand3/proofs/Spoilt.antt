@@ -1,4 +1,5 @@
 -- The bytes that a run lets arrive spoiled are those that reading refuses with 1 to 7 (rules J3, R1 to R7). Assumes nothing.
+use Rattle.std.specs.Prelude.{Option, None, Some}
 use mathlib.Core.Path.{◌≡◌, refl, ap}
 use mathlib.Core.Bool.{true}
 use mathlib.Core.List.{List, [], ◌∷◌, ◌++◌}
@@ -12,8 +13,6 @@ use Rattle.records.specs.Answers.{Fault, good, fails, first_fault, refused}
 use Rattle.reading.specs.Frame.{frame_checks}
 use Rattle.reading.specs.Contents.{field_checks}
 use Rattle.reading.specs.Reading.{record_in, checks, reading_of}
-use Rattle.records.specs.declared.answers.Spot.{Spot}
-use Rattle.records.specs.declared.answers.Spot.TheVariants.{Nowhere, At}
 use Rattle.records.specs.Refusals.{No, no}
 use Rattle.desk.proofs.Numbers.{refusing}
 use Rattle.demand3.specs.Ours.{is_fault, is_refused}
@@ -24,18 +23,18 @@ numbered : (k place : ℕ) (x : No) → fails (no k place) ≡ fails x → k ≡
 numbered k place x e = let q : no k place ≡ x = cc in ap (λ (z : No). z.number) q
 
 -- where the front of a row of checks finds a fault, so does the row, and its number is one of the front's
-in-front : (k : ℕ) (x : No) (xs ys : List Spot) → first_fault k xs ≡ fails x → (first_fault k (xs ++ ys) ≡ fails x) × (x.number < k + length xs)
+in-front : (k : ℕ) (x : No) (xs ys : List (Option ℕ)) → first_fault k xs ≡ fails x → (first_fault k (xs ++ ys) ≡ fails x) × (x.number < k + length xs)
 in-front k x [] ys h = clash (cc)
-in-front k x (Nowhere ∷ xs) ys h = let r = in-front (k + 1) x xs ys h in (r.0, omega (arith, r.1))
-in-front k x (At spot ∷ xs) ys h = let e = numbered k spot x h in (h, omega arith)
+in-front k x (None ∷ xs) ys h = let r = in-front (k + 1) x xs ys h in (r.0, omega (arith, r.1))
+in-front k x (Some spot ∷ xs) ys h = let e = numbered k spot x h in (h, omega arith)
 
 -- where it finds none, the fault's number is none of the front's
-behind : (k : ℕ) (x : No) (xs ys : List Spot) → first_fault k xs ≡ good → first_fault k (xs ++ ys) ≡ fails x → k + length xs ≤ x.number
+behind : (k : ℕ) (x : No) (xs ys : List (Option ℕ)) → first_fault k xs ≡ good → first_fault k (xs ++ ys) ≡ fails x → k + length xs ≤ x.number
 behind k x [] [] h e = clash (cc)
-behind k x [] (Nowhere ∷ ys) h e = let r = behind (k + 1) x [] ys refl e in omega (arith, r)
-behind k x [] (At spot ∷ ys) h e = let q = numbered k spot x e in omega arith
-behind k x (Nowhere ∷ xs) ys h e = let r = behind (k + 1) x xs ys h e in omega (arith, r)
-behind k x (At spot ∷ xs) ys h e = clash (cc)
+behind k x [] (None ∷ ys) h e = let r = behind (k + 1) x [] ys refl e in omega (arith, r)
+behind k x [] (Some spot ∷ ys) h e = let q = numbered k spot x e in omega arith
+behind k x (None ∷ xs) ys h e = let r = behind (k + 1) x xs ys h e in omega (arith, r)
+behind k x (Some spot ∷ xs) ys h e = clash (cc)
 
 module _ (line : ℕ) (bytes : List ℕ) where
   as-refused : is_line line ≡ true → is_refused bytes ≡ true → (x : No) × (reading_of line bytes ≡ refused x) × (x.number ≤ 7)

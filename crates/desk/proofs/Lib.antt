@@ -1,3 +1,4 @@
+pub mod Places
 pub mod Rulings
 pub mod Numbers
 pub mod Permitted

@@ -1,4 +1,5 @@
 -- The number that a rule answers with is 0 or 1. Assumes nothing.
+use Rattle.std.specs.Prelude.{Option, None, Some}
 use mathlib.Core.Path.{◌≡◌, refl, ap}
 use mathlib.Core.Bool.{Bool, true, false, cond}
 use mathlib.Core.List.{List, [], ◌∷◌, ◌++◌}
@@ -18,8 +19,6 @@ use Rattle.records.specs.Answers.{Fault, good, fails, first_fault, Answer, accep
 use Rattle.reading.specs.Frame.{frame_checks}
 use Rattle.reading.specs.Contents.{field_checks}
 use Rattle.reading.specs.Reading.{record_in, checks, reading_of}
-use Rattle.records.specs.declared.answers.Spot.{Spot}
-use Rattle.records.specs.declared.answers.Spot.TheVariants.{Nowhere, At}
 use Rattle.writing.proofs.RoundTrips.Faults.{good-faultless}
 use Rattle.writing.proofs.RoundTrips.Frames.{faultless-framed}
 use Rattle.writing.proofs.Trips.{read-permitted}
@@ -28,10 +27,10 @@ use Rattle.records.specs.Refusals.{No, no}
 use Rattle.desk.specs.Deciding.{What, contents, repeats, matter_in, good_frame, bad_frame, ruled_by, ruling_in, answers_with}
 
 -- where the first fault is behind a row of checks, that row finds none
-behind : (k : ℕ) (x : No) (xs ys : List Spot) → first_fault k (xs ++ ys) ≡ fails x → k + length xs ≤ x.number → first_fault k xs ≡ good
+behind : (k : ℕ) (x : No) (xs ys : List (Option ℕ)) → first_fault k (xs ++ ys) ≡ fails x → k + length xs ≤ x.number → first_fault k xs ≡ good
 behind k x [] ys h l = refl
-behind k x (Nowhere ∷ xs) ys h l = behind (k + 1) x xs ys h (omega arith)
-behind k x (At spot ∷ xs) ys h l = let q : no k spot ≡ x = cc in let e : k ≡ x.number = ap (λ (y : No). y.number) q in absurd (omega arith)
+behind k x (None ∷ xs) ys h l = behind (k + 1) x xs ys h (omega arith)
+behind k x (Some spot ∷ xs) ys h l = let q : no k spot ≡ x = cc in let e : k ≡ x.number = ap (λ (y : No). y.number) q in absurd (omega arith)
 
 -- a refusal of a reading is its first fault, but for 15
 pub refusing : (t : Bool) (f : Fault) (rec : Record) (n : ℕ) (x : No) → cond t (unless f (accepted rec n)) (refused (no 15 0)) ≡ refused x → x.number < 12 → f ≡ fails x
@@ -68,9 +67,9 @@ module _ (good : Bool) (last : ℕ) where
       (λ g. rw g (omega arith))))
 
 -- so is the number of each rule
-pub ruling-number : (line : ℕ) (good : Bool) (last : ℕ) (frame : List ℕ) → answers_with (ruling_in line good last frame) < 2
+pub ruling_number : (line : ℕ) (good : Bool) (last : ℕ) (frame : List ℕ) → answers_with (ruling_in line good last frame) < 2
 unfolding ruling_in
-ruling-number line ok last frame = by (reading_of line frame) refl
+ruling_number line ok last frame = by (reading_of line frame) refl
   where
     by : (a : Answer) → reading_of line frame ≡ a → answers_with (ruled_by line ok last (get_or frame 4 0) a) < 2
     by (accepted rec n) e = good-small ok last n (matter_in line rec) (read-permitted line frame rec n e).1.1.0

@@ -1,4 +1,5 @@
 -- Each record that the desk answers with is permitted on its line. Assumes nothing.
+use Rattle.std.specs.Prelude.{Option, None, Some}
 use mathlib.Core.Path.{◌≡◌, refl}
 use mathlib.Core.Bool.{Bool, true, cond}
 use mathlib.Core.List.{[], ◌∷◌}
@@ -23,8 +24,6 @@ use Rattle.values.specs.Values.{text_of, narrow, number_width, permitted_from, n
 use Rattle.desk.specs.Deciding.{What, contents, not_master, request, poll, other}
 use Rattle.desk.specs.Fitting.{may_reply, key_fits, wanted_fits}
 use Rattle.desk.specs.Replying.{asked_of, key_on, polled_of, reply_of}
-use Rattle.desk.specs.declared.replying.Wanted.{Wanted}
-use Rattle.desk.specs.declared.replying.Wanted.TheVariants.{None, Is}
 
 -- N with 1, N with A and A with A on each line
 abbrev plain_on : ℕ → Bool
@@ -70,13 +69,13 @@ unfolding may_reply
 reply-allowed line rec h = both_right (eqb (type_of rec) (data_type line)) (permits_record line rec) h
 
 -- the record set for r
-asked-permitted : (line : ℕ) (w : Wanted) → is_line line ≡ true → wanted_fits line w ≡ true → permits_record line (asked_of w).0 ≡ true
+asked-permitted : (line : ℕ) (w : Option Record) → is_line line ≡ true → wanted_fits line w ≡ true → permits_record line (asked_of w).0 ≡ true
 unfolding wanted_fits
-asked-permitted line (Is rec) h k = reply-allowed line rec k
+asked-permitted line (Some rec) h k = reply-allowed line rec k
 asked-permitted line None h k = refused-permitted line h
 
 -- so each answer to a handled telegram is permitted, where the key position, the record set for r and the oldest that waits may answer
-module _ (line key : ℕ) (wanted : Wanted) (queued : ℕ) (oldest : Record) (h : is_line line ≡ true) (k : key_fits line key ≡ true) (w : wanted_fits line wanted ≡ true)
+module _ (line key : ℕ) (wanted : Option Record) (queued : ℕ) (oldest : Record) (h : is_line line ≡ true) (k : key_fits line key ≡ true) (w : wanted_fits line wanted ≡ true)
     (o : ¬ (queued ≡ 0) → may_reply line oldest ≡ true) where
   polled-permitted : permits_record line (polled_of line key queued oldest).0 ≡ true
   unfolding polled_of

@@ -70,5 +70,5 @@ noted-fits d true f =
     record { lined = f.lined; numbered = f.numbered; few = f.few; keyed = f.keyed; stocked = lost-fits d.good d.kept f.stocked; wanted = f.wanted; waiting = f.waiting }
 noted-fits d false f = f
 
-pub noted-ranges : (d : Desk) (lost : Bool) → in_ranges d ≡ true → in_ranges (noted_of d lost) ≡ true
-noted-ranges d lost h = parts-ranges (noted_of d lost) (noted-fits d lost (ranges-parts d h))
+pub noted_ranges : (d : Desk) (lost : Bool) → in_ranges d ≡ true → in_ranges (noted_of d lost) ≡ true
+noted_ranges d lost h = parts-ranges (noted_of d lost) (noted-fits d lost (ranges-parts d h))

@@ -1,6 +1,6 @@
 -- What a sending does, and what each rule makes of state and output, a lemma for each return. Assumes nothing.
 use mathlib.Core.Path.{◌≡◌, ap, ◌∙◌}
-use mathlib.Core.Bool.{Bool, true, false}
+use mathlib.Core.Bool.{Bool, true}
 use mathlib.Core.List.{List, ◌++◌}
 use Prim.Native.Nat.{ℕ, ◌≤◌, ◌<◌}
 use Prim.Native.Char.{code}
@@ -16,13 +16,12 @@ use Rattle.writing.specs.Writing.{telegram_of, sent_of, send_of}
 use Rattle.writing.proofs.Trips.{telegram-length, length-bounds, sent-whole}
 use Rattle.characters.specs.Marks.{longest}
 use Rattle.desk.specs.Deciding.{What, Ruling}
-use Rattle.desk.specs.Replying.{Origin, Reply}
+use Rattle.desk.specs.Replying.{Origin}
 use Rattle.desk.specs.State.{in_ranges, stored_of}
 use Rattle.desk.specs.Panel.{loses_line, noted_of}
-use Rattle.desk.specs.Heard.{Told, told_of, fault, repeat, handled}
+use Rattle.desk.specs.Heard.{Told, fault, repeat, handled}
 use Rattle.desk.specs.Queue.{reply_to, taken_by}
-use Rattle.desk.specs.Hearing.{Hearing, with_stored, marked, restarted, faulted_of, repeated_of, handled_of, applied_of, ruling, heard_of, hear_of}
-use Rattle.desk.specs.declared.applying.Hearing.{Hearing as Step}
+use Rattle.desk.specs.Hearing.{with_stored, marked, restarted, faulted_of, repeated_of, handled_of, applied_of, ruling, heard_of, hear_of}
 use Rattle.desk.specs.declared.state.Desk.{Desk}
 
 -- a telegram that was sent has at most 66 bytes, and stands in front of the output
@@ -75,27 +74,16 @@ pub repeat-sent : (d : Desk) (out : List ℕ) (k : ℕ) (new : List ℕ) → k �
 unfolding repeated_of sent_of
 repeat-sent d out k new l e = rw (l, e, take-length)
 
--- a handled telegram: the record that answers is permitted where the definition's is
-module _ (d : Desk) (what : What) (p : permits_record d.line (reply_to d what).0 ≡ true) (rec : Record) (origin : Origin) (g : (rec, origin) ≡ reply_to d what) where
-  pub reply-record : permits_record d.line rec ≡ true
-  reply-record = ap (λ (r : Reply). permits_record d.line r.0) g ∙ p
-
+-- a handled telegram, whose answer is permitted
+module _ (d : Desk) (what : What) (rec : Record) (origin : Origin) (g : (rec, origin) ≡ reply_to d what) (p : permits_record d.line rec ≡ true) where
   pub handle-sent : (lost : Bool) (at number : ℕ) (out : List ℕ) → number < 2 → longest ≤ length out → (k : ℕ) (new : List ℕ) → (k, new) ≡ send_of d.line rec number out
       → (c e : Desk) → c ≡ restarted (marked (taken_by d origin) number) at → e ≡ with_stored c (take k new)
       → (e, handled lost origin k, new) ≡ handled_of d lost at number (reply_to d what) out
   unfolding handled_of
   handle-sent lost at number out n room k new h c e ec ee =
-      rw (← g, ee, ec, sent_front d.line rec number out reply-record n room k new h, ← (as-sent d.line rec number out reply-record n room k new h))
-
--- a hearing with the output behind it
-abbrev pub stepped : Step → List ℕ → Hearing
-stepped s out = (s.desk, told_of s.answer, out)
+      rw (← g, ee, ec, sent_front d.line rec number out p n room k new h, ← (as-sent d.line rec number out p n room k new h))
 
 module _ (d : Desk) (at : ℕ) (frame out : List ℕ) where
-  pub hear-state : in_ranges d ≡ false → (d, Told.refused (no 15 0), out) ≡ hear_of d at frame out
-  unfolding hear_of
-  hear-state h = rw h
-
   pub hear-room : in_ranges d ≡ true → length out < longest → (d, Told.refused (no 14 0), out) ≡ hear_of d at frame out
   unfolding hear_of
   hear-room h k = rw (h, lt-leb longest (length out) k)

@@ -1,7 +1,6 @@
 -- Clearing what waits for the master, as a panel does at the end of a shift (rules D17, D18; our own addition). Assumes nothing.
-use Rattle.std.specs.Prelude.{cond, replicate}
+use Rattle.std.specs.Prelude.{cond, replicate, None}
 use Rattle.records.specs.Refusals.{no}
-use Rattle.desk.specs.declared.replying.Wanted.TheVariants.{None}
 use Rattle.desk.specs.Answers.{Done, done, refused}
 use Rattle.desk.specs.Waiting.{blank}
 use Rattle.desk.specs.State.{in_ranges}

@@ -1,5 +1,5 @@
 -- The desk's calls that hear nothing (rules D2 to D4, R17). Assumes nothing.
-use Rattle.std.specs.Prelude.{ℕ, ◌+◌, Bool, false, cond, List, ltb, eqb, set}
+use Rattle.std.specs.Prelude.{ℕ, ◌+◌, Bool, false, cond, List, ltb, eqb, set, Option, Some}
 use Rattle.laws.specs.Truth.{both}
 use Rattle.forms.specs.Forms.{data_type}
 use Rattle.records.specs.Records.{type_of}
@@ -9,8 +9,6 @@ use Rattle.clock.specs.Clock.{run_out}
 use Rattle.records.specs.Answers.{Fault, good, fails}
 use Rattle.records.specs.Refusals.{no}
 use Rattle.forms.specs.Lines.{line_of, is_key}
-use Rattle.desk.specs.declared.replying.Wanted.{Wanted}
-use Rattle.desk.specs.declared.replying.Wanted.TheVariants.{Is}
 use Rattle.desk.specs.Answers.{Done, done, lost, refused}
 use Rattle.desk.specs.State.{in_ranges}
 use Rattle.desk.specs.declared.waiting.Waiting.{Waiting}
@@ -33,12 +31,12 @@ abbrev pub with_queued : Desk → Record → Desk
 with_queued d rec = with_queue d (set d.queue d.queued (record { rec = rec })) (d.queued + 1)
 
 -- with a record set for r, or none
-abbrev pub with_wanted : Desk → Wanted → Desk
+abbrev pub with_wanted : Desk → Option Record → Desk
 with_wanted d wanted = record { line = d.line; good = d.good; last = d.last; t1 = d.t1; kept = d.kept; stored = d.stored; requested = wanted; queued = d.queued; queue = d.queue; key = d.key }
 
 -- with another record set for r
 abbrev pub with_requested : Desk → Record → Desk
-with_requested d rec = with_wanted d (Is rec)
+with_requested d rec = with_wanted d (Some rec)
 
 -- with another key position
 abbrev pub with_key : Desk → ℕ → Desk

@@ -1,5 +1,5 @@
 -- The desk's state: its ranges and its start (rules D1, E9, E10). Assumes nothing.
-use Rattle.std.specs.Prelude.{ℕ, List, Bool, false, cond, leb, take, replicate}
+use Rattle.std.specs.Prelude.{ℕ, List, Bool, false, cond, leb, take, replicate, None}
 use Prim.Native.Char.{code}
 use Rattle.laws.specs.Truth.{both, every}
 use Rattle.forms.specs.Lines.{is_line}
@@ -8,7 +8,6 @@ use Rattle.characters.specs.Marks.{longest}
 use Rattle.records.specs.Refusals.{no}
 use Rattle.desk.specs.Fitting.{key_fits, wanted_fits}
 use Rattle.desk.specs.Waiting.{waiting_fits, kept_fits, blank}
-use Rattle.desk.specs.declared.replying.Wanted.TheVariants.{None}
 use Rattle.desk.specs.Answers.{Done, done, refused}
 use Rattle.desk.specs.declared.state.Desk.{Desk}
 

@@ -3,9 +3,8 @@ ghost use Rattle.std.specs.Prelude.{◌≡◌};
 ghost use Rattle.desk.specs.Answers.{done_of};
 ghost use Rattle.desk.specs.Clearing.{clear_queue_of, clear_set_of};
 
-use crate::answers::Outcome;
-use crate::state::{Desk, Step, Waiting, Wanted};
-use records::records::Record;
+use crate::state::{Desk, Step};
+use crate::waiting::BLANK;
 use records::refusals::Refusal;
 
 impl Desk {
@@ -15,20 +14,14 @@ impl Desk {
         ensures { (result.desk, done_of result.answer) ≡ clear_queue_of self }
     {
         if !self.in_ranges() {
-            return Step {
-                desk: self,
-                answer: Outcome::Refused(Refusal::State),
-            };
+            return self.refused(Refusal::State);
         }
-        let mut d = self;
-        d.queued = 0;
-        d.queue = [Waiting {
-            rec: Record::Approved(0),
-        }; 8];
-        Step {
-            desk: d,
-            answer: Outcome::Done,
+        Desk {
+            queued: 0,
+            queue: [BLANK; 8],
+            ..self
         }
+        .done()
     }
 
     // Taking back the record set for r: 15; all else stays.
@@ -37,14 +30,8 @@ impl Desk {
         ensures { (result.desk, done_of result.answer) ≡ clear_set_of self }
     {
         if !self.in_ranges() {
-            return Step {
-                desk: self,
-                answer: Outcome::Refused(Refusal::State),
-            };
+            return self.refused(Refusal::State);
         }
-        Step {
-            desk: self.with_wanted(Wanted::None),
-            answer: Outcome::Done,
-        }
+        self.with_wanted(None).done()
     }
 }

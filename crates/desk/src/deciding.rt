@@ -3,15 +3,17 @@ ghost use Rattle.std.specs.Prelude.{◌≡◌};
 ghost use Rattle.records.specs.Refusals.{refusal_of};
 ghost use Rattle.desk.specs.Deciding.{matter_of, ruling_of, repeats, matter_in, good_frame, bad_frame, ruling_in};
 
+use crate::state::Desk;
 use characters::slices::byte_at;
 use clock::counters::{LastTaken, is_number, number_in};
 use forms::table::by_master;
 use reading::reading::read;
-use records::answers::Reading;
+use records::answers::Numbered;
 use records::records::{Record, type_of};
-use records::refusals::{Refusal, number_of};
+use records::refusals::Refusal;
 
 // What a telegram in a good frame is.
+// An enum and no closure, as Rule: the clauses name both (matter_of, ruling_of).
 #[derive(Clone, Copy)]
 pub enum Matter {
     // contents refused 8 to 11
@@ -40,37 +42,33 @@ pub enum Rule {
 }
 
 // What a telegram with this record is on a line.
+// Line and record stay apart, as values::permits_record says.
 #[tactic(auto, unfolding(crate::specs::Deciding::matter_in))]
 fn matter_of(line: u8, rec: Record) -> Matter
     ensures { matter_of result ≡ matter_in line rec }
 {
-    let kind = type_of(rec);
-    if !by_master(line, kind) {
-        return Matter::NotMaster;
+    match rec {
+        _ if !by_master(line, type_of(rec)) => Matter::NotMaster,
+        Record::Request(_) => Matter::Request,
+        Record::Idling(_) => Matter::Poll,
+        _ => Matter::Other(rec),
     }
-    if kind == b'r' {
-        return Matter::Request;
-    }
-    if kind == b't' {
-        return Matter::Poll;
-    }
-    Matter::Other(rec)
 }
 
 // Whether the line is good and a number is the last taken.
 #[tactic(auto, unfolding(crate::specs::Deciding::repeats))]
-fn is_repeat(good: bool, last: LastTaken, number: u8) -> bool
-    ensures { result ≡ repeats good last.0 number }
+fn is_repeat(desk: Desk, number: u8) -> bool
+    ensures { result ≡ repeats desk.good desk.last.0 number }
 {
-    if good { last.is(number) } else { false }
+    desk.good && desk.last == LastTaken(number)
 }
 
 // The rule for a good frame.
 #[tactic(auto, unfolding(crate::specs::Deciding::good_frame))]
-fn on_good(good: bool, last: LastTaken, number: u8, matter: Matter) -> Rule
-    ensures { ruling_of result ≡ good_frame good last.0 number (matter_of matter) }
+fn on_good(desk: Desk, number: u8, matter: Matter) -> Rule
+    ensures { ruling_of result ≡ good_frame desk.good desk.last.0 number (matter_of matter) }
 {
-    if is_repeat(good, last, number) {
+    if is_repeat(desk, number) {
         Rule::Repeat(number, matter)
     } else {
         Rule::Handle(number, matter)
@@ -79,34 +77,26 @@ fn on_good(good: bool, last: LastTaken, number: u8, matter: Matter) -> Rule
 
 // The rule for a frame that the reading refuses, with its number byte.
 #[tactic(auto, unfolding(crate::specs::Deciding::bad_frame))]
-fn on_refused(good: bool, last: LastTaken, refusal: Refusal, byte: u8) -> Rule
-    ensures { ruling_of result ≡ bad_frame good last.0 (refusal_of refusal) byte }
+fn on_refused(desk: Desk, refusal: Refusal, byte: u8) -> Rule
+    ensures { ruling_of result ≡ bad_frame desk.good desk.last.0 (refusal_of refusal) byte }
 {
-    let k = number_of(refusal);
-    if k == 6 {
-        if is_number(byte) {
-            return Rule::Fault(refusal, number_in(byte));
+    match refusal {
+        Refusal::Checksum(_) if is_number(byte) => Rule::Fault(refusal, number_in(byte)),
+        Refusal::Kind | Refusal::Character(_) | Refusal::Form(_) | Refusal::Value(_) => {
+            on_good(desk, number_in(byte), Matter::Contents(refusal))
         }
-        return Rule::Silent(refusal);
+        _ => Rule::Silent(refusal),
     }
-    if k < 8 {
-        return Rule::Silent(refusal);
-    }
-    if 12 <= k {
-        return Rule::Silent(refusal);
-    }
-    on_good(good, last, number_in(byte), Matter::Contents(refusal))
 }
 
 // The rule for a frame, by its reading and its number byte.
 #[tactic(auto, unfolding(crate::specs::Deciding::ruling_in))]
-pub(crate) fn decide(line: u8, good: bool, last: LastTaken, frame: &[u8]) -> Rule
-    ensures { ruling_of result ≡ ruling_in line good last.0 frame.now }
+pub(crate) fn decide(desk: Desk, frame: &[u8]) -> Rule
+    ensures { ruling_of result ≡ ruling_in desk.line desk.good desk.last.0 frame.now }
 {
     let byte = byte_at(frame, 4);
-    let reading = read(line, frame);
-    match reading {
-        Reading::Accepted(rec, number) => on_good(good, last, number, matter_of(line, rec)),
-        Reading::Refused(refusal) => on_refused(good, last, refusal, byte),
+    match read(desk.line, frame) {
+        Ok(Numbered { rec, number }) => on_good(desk, number, matter_of(desk.line, rec)),
+        Err(refusal) => on_refused(desk, refusal, byte),
     }
 }

@@ -15,12 +15,12 @@ impl Desk {
         ensures { when_of result ≡ due_of self at }
     {
         if !self.in_ranges() {
-            return Due::Refused(Refusal::State);
+            return Err(Refusal::State);
         }
         if self.good {
-            Due::After(time_left(at, self.t1, T1))
+            Ok(Some(time_left(at, self.t1, T1)))
         } else {
-            Due::Never
+            Ok(None)
         }
     }
 }

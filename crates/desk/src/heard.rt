@@ -2,11 +2,9 @@
 use crate::replying::Source;
 use records::refusals::Refusal;
 
-// What hearing a frame answers. The flag says that this call noted the line lost; the last number is that of the bytes sent.
+// What hearing a frame answers, where the call does not refuse. The flag says that this call noted the line lost; the last number is that of the bytes sent.
 #[derive(Clone, Copy)]
 pub enum Heard {
-    // the call refuses
-    Refused(Refusal),
     // nothing is sent; the reading's refusal
     Silent(bool, Refusal),
     // N with 1

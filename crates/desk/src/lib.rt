@@ -12,5 +12,6 @@ pub mod hearing;
 pub mod panel;
 pub mod queue;
 pub mod replying;
+mod sound;
 pub mod state;
 pub mod waiting;

@@ -4,12 +4,10 @@ ghost use Rattle.records.specs.Answers.{fault_of};
 ghost use Rattle.desk.specs.Answers.{done_of};
 ghost use Rattle.desk.specs.Panel.{loses_line, noted_of, with_queued, with_wanted, record_fault, key_fault, tick_of, queue_of, set_of, key_of};
 
-use crate::answers::Outcome;
-use crate::state::{Desk, Step, Waiting, Wanted};
+use crate::state::{Desk, Step, Waiting};
 use clock::clock::run_out;
 use forms::lines::{is_key, line_of};
 use forms::table::data_type;
-use records::answers::Check;
 use records::records::{Record, type_of};
 use records::refusals::Refusal;
 use values::values::permits_record;
@@ -23,11 +21,7 @@ impl Desk {
     pub(crate) fn loses(self, at: u32) -> bool
         ensures { result ≡ loses_line self at }
     {
-        if self.good {
-            run_out(at, self.t1, T1)
-        } else {
-            false
-        }
+        self.good && run_out(at, self.t1, T1)
     }
 
     // The state with the line noted lost, where it is.
@@ -35,11 +29,14 @@ impl Desk {
     pub(crate) fn noted(self, lost: bool) -> Desk
         ensures { result ≡ noted_of self lost }
     {
-        let mut d = self;
         if lost {
-            d.good = false;
+            Desk {
+                good: false,
+                ..self
+            }
+        } else {
+            self
         }
-        d
     }
 
     // The first rule: line good and T1 run out means line lost.
@@ -48,50 +45,46 @@ impl Desk {
         ensures { (result.desk, done_of result.answer) ≡ tick_of self at }
     {
         if !self.in_ranges() {
-            return Step {
-                desk: self,
-                answer: Outcome::Refused(Refusal::State),
-            };
+            return self.refused(Refusal::State);
         }
-        if self.loses(at) {
-            return Step {
-                desk: self.noted(true),
-                answer: Outcome::Lost,
-            };
-        }
+        let lost = self.loses(at);
         Step {
-            desk: self.noted(false),
-            answer: Outcome::Done,
+            desk: self.noted(lost),
+            answer: Ok(lost),
         }
     }
 
     // Checks 15, 12 and 13 on a record that the panel hands over.
+    // key_check and the master's offer_check have this form with other tests: one function of them would take each test.
     #[tactic(auto, unfolding(crate::specs::Panel::record_fault))]
-    fn record_check(self, rec: Record) -> Check
+    fn record_check(self, rec: Record) -> Result<(), Refusal>
         ensures { fault_of result ≡ record_fault self rec }
     {
         if !self.in_ranges() {
-            return Check::Fails(Refusal::State);
+            return Err(Refusal::State);
         }
         if type_of(rec) != data_type(self.line) {
-            return Check::Fails(Refusal::NotSent);
+            return Err(Refusal::NotSent);
         }
         if !permits_record(self.line, rec) {
-            return Check::Fails(Refusal::Range);
+            return Err(Refusal::Range);
         }
-        Check::Good
+        Ok(())
     }
 
     // A record put behind those that are queued.
+    // The count's range stays in the requires: queue alone calls it, behind that test.
     fn with_queued(self, rec: Record) -> Desk
         requires { self.queued < 8 }
         ensures { result ≡ with_queued self rec }
     {
-        let n = self.queued;
-        let mut d = self;
-        d.queue[n] = Waiting { rec };
-        d.queued = n + 1;
-        d
+        let mut queue = self.queue;
+        queue[self.queued] = Waiting { rec };
+        Desk {
+            queued: self.queued + 1,
+            queue,
+            ..self
+        }
     }
 
     // Queueing a record: 15, 12, 13, then 17 where 8 are queued.
@@ -99,43 +92,20 @@ impl Desk {
     pub fn queue(self, rec: Record) -> Step
         ensures { (result.desk, done_of result.answer) ≡ queue_of self rec }
     {
-        let check = self.record_check(rec);
-        if let Check::Fails(refusal) = check {
-            return Step {
-                desk: self,
-                answer: Outcome::Refused(refusal),
-            };
-        }
-        if 8 <= self.queued {
-            return Step {
-                desk: self,
-                answer: Outcome::Refused(Refusal::Full),
-            };
-        }
-        Step {
-            desk: self.with_queued(rec),
-            answer: Outcome::Done,
+        match self.record_check(rec) {
+            Err(refusal) => self.refused(refusal),
+            Ok(()) if self.queued < 8 => self.with_queued(rec).done(),
+            Ok(()) => self.refused(Refusal::Full),
         }
     }
 
     // The state with a record set for r, or none.
-    pub(crate) fn with_wanted(self, wanted: Wanted) -> Desk
+    pub(crate) fn with_wanted(self, wanted: Option<Record>) -> Desk
         ensures { result ≡ with_wanted self wanted }
     {
-        let last = self.last;
-        let stored = self.stored;
-        let queue = self.queue;
         Desk {
-            line: self.line,
-            good: self.good,
-            last,
-            t1: self.t1,
-            kept: self.kept,
-            stored,
             requested: wanted,
-            queued: self.queued,
-            queue,
-            key: self.key,
+            ..self
         }
     }
 
@@ -144,35 +114,27 @@ impl Desk {
     pub fn set(self, rec: Record) -> Step
         ensures { (result.desk, done_of result.answer) ≡ set_of self rec }
     {
-        let check = self.record_check(rec);
-        if let Check::Fails(refusal) = check {
-            return Step {
-                desk: self,
-                answer: Outcome::Refused(refusal),
-            };
-        }
-        Step {
-            desk: self.with_wanted(Wanted::Is(rec)),
-            answer: Outcome::Done,
+        match self.record_check(rec) {
+            Err(refusal) => self.refused(refusal),
+            Ok(()) => self.with_wanted(Some(rec)).done(),
         }
     }
 
     // Checks 15, 12 and 13 on a key position: 12 on a line without one, whatever the value.
     #[tactic(auto, unfolding(crate::specs::Panel::key_fault))]
-    fn key_check(self, key: u8) -> Check
+    fn key_check(self, key: u8) -> Result<(), Refusal>
         ensures { fault_of result ≡ key_fault self key }
     {
         if !self.in_ranges() {
-            return Check::Fails(Refusal::State);
+            return Err(Refusal::State);
         }
-        let row = line_of(self.line);
-        if !row.keyed {
-            return Check::Fails(Refusal::NotSent);
+        if !line_of(self.line).keyed {
+            return Err(Refusal::NotSent);
         }
         if !is_key(key) {
-            return Check::Fails(Refusal::Range);
+            return Err(Refusal::Range);
         }
-        Check::Good
+        Ok(())
     }
 
     // The panel's key position: A, X or Y on a line that has one.
@@ -180,18 +142,9 @@ impl Desk {
     pub fn turn_key(self, key: u8) -> Step
         ensures { (result.desk, done_of result.answer) ≡ key_of self key }
     {
-        let check = self.key_check(key);
-        if let Check::Fails(refusal) = check {
-            return Step {
-                desk: self,
-                answer: Outcome::Refused(refusal),
-            };
-        }
-        let mut d = self;
-        d.key = key;
-        Step {
-            desk: d,
-            answer: Outcome::Done,
+        match self.key_check(key) {
+            Err(refusal) => self.refused(refusal),
+            Ok(()) => Desk { key, ..self }.done(),
         }
     }
 }

@@ -1,19 +1,14 @@
 // The choice of an answer to a handled telegram (rules D9 to D13).
 ghost use Rattle.std.specs.Prelude.{◌≡◌};
 ghost use Rattle.desk.specs.Deciding.{matter_of};
-ghost use Rattle.desk.specs.Replying.{origin_of, key_on, asked_of, polled_of, reply_of};
+ghost use Rattle.desk.specs.Replying.{origin_of, rejected_by, key_on, asked_of, polled_of};
+ghost use Rattle.desk.specs.Queue.{oldest, reply_to};
 
 use crate::deciding::Matter;
+use crate::state::Desk;
 use forms::lines::line_of;
 use records::records::Record;
 use records::refusals::Refusal;
-
-// The record set for r, where one is set.
-#[derive(Clone, Copy)]
-pub enum Wanted {
-    None,
-    Is(Record),
-}
 
 // Where an answer to a handled telegram comes from.
 #[derive(Clone, Copy)]
@@ -42,18 +37,15 @@ pub struct Reply {
 }
 
 // r: the record set for it, else N with A.
-fn asked(wanted: Wanted) -> Reply
+fn asked(wanted: Option<Record>) -> Reply
     ensures { (result.rec, origin_of result.source) ≡ asked_of wanted }
 {
     match wanted {
-        Wanted::Is(rec) => Reply {
+        Some(rec) => Reply {
             rec,
             source: Source::Requested,
         },
-        Wanted::None => Reply {
-            rec: Record::Rejected(b'A' as u32),
-            source: Source::NothingSet,
-        },
+        None => rejected(Source::NothingSet),
     }
 }
 
@@ -62,52 +54,48 @@ fn asked(wanted: Wanted) -> Reply
 fn key_on(line: u8, key: u8) -> u8
     ensures { result ≡ key_on line key }
 {
-    let row = line_of(line);
-    if row.keyed { key } else { b'A' }
+    if line_of(line).keyed { key } else { b'A' }
 }
 
 // t: the oldest queued record, else A.
 #[tactic(auto, unfolding(crate::specs::Replying::polled_of))]
-fn polled(line: u8, key: u8, queued: usize, oldest: Record) -> Reply
-    ensures { (result.rec, origin_of result.source) ≡ polled_of line key queued oldest }
+fn polled(desk: Desk) -> Reply
+    ensures { (result.rec, origin_of result.source) ≡ polled_of desk.line desk.key desk.queued (oldest desk) }
 {
-    if queued == 0 {
-        let key = key_on(line, key);
+    if desk.queued == 0 {
+        let key = key_on(desk.line, desk.key);
         return Reply {
-            rec: Record::Approved(key as u32),
+            rec: Record::Approved(u32::from(key)),
             source: Source::Key(key),
         };
     }
     Reply {
-        rec: oldest,
+        rec: desk.queue[0].rec,
         source: Source::Queue,
     }
 }
 
-// The answer on a line with this key position, this record set for r, and so many queued records with this oldest.
-pub(crate) fn choose(
-    line: u8,
-    key: u8,
-    wanted: Wanted,
-    queued: usize,
-    oldest: Record,
-    matter: Matter,
-) -> Reply
-    ensures { (result.rec, origin_of result.source) ≡ reply_of line key wanted queued oldest (matter_of matter) }
+// N with A, and its cause.
+fn rejected(source: Source) -> Reply
+    ensures { (result.rec, origin_of result.source) ≡ rejected_by source }
+{
+    Reply {
+        rec: Record::Rejected(u32::from(b'A')),
+        source,
+    }
+}
+
+// The answer of a desk to a handled telegram.
+pub(crate) fn choose(desk: Desk, matter: Matter) -> Reply
+    ensures { (result.rec, origin_of result.source) ≡ reply_to desk (matter_of matter) }
 {
     match matter {
-        Matter::Contents(refusal) => Reply {
-            rec: Record::Rejected(b'A' as u32),
-            source: Source::Contents(refusal),
-        },
-        Matter::NotMaster => Reply {
-            rec: Record::Rejected(b'A' as u32),
-            source: Source::NotMaster,
-        },
-        Matter::Request => asked(wanted),
-        Matter::Poll => polled(line, key, queued, oldest),
+        Matter::Contents(refusal) => rejected(Source::Contents(refusal)),
+        Matter::NotMaster => rejected(Source::NotMaster),
+        Matter::Request => asked(desk.requested),
+        Matter::Poll => polled(desk),
         Matter::Other(rec) => Reply {
-            rec: Record::Approved(b'A' as u32),
+            rec: Record::Approved(u32::from(b'A')),
             source: Source::Panel(rec),
         },
     }

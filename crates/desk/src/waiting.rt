@@ -13,49 +13,40 @@ pub struct Waiting {
     pub rec: Record,
 }
 
+// What stands in a place of the queue before any record does.
+pub(crate) const BLANK: Waiting = Waiting {
+    rec: Record::Approved(0),
+};
+
 // Whether a stored answer's length is one: 0 while the line is lost, or 10 to 66.
+// 0 is no stored answer, and no Option: docs/PROMISES.md has it as Waiting.kept_fits, and the desk's block stores it so.
 #[tactic(auto, unfolding(crate::specs::Waiting::kept_fits))]
 pub fn kept_fits(good: bool, kept: usize) -> bool
     ensures { result ≡ kept_fits good kept }
 {
     if kept == 0 {
-        return !good;
+        !good
+    } else {
+        SHORTEST <= kept && kept <= LONGEST
     }
-    if kept < SHORTEST {
-        return false;
-    }
-    kept < LONGEST + 1
 }
 
 // Whether each of the first n queued records may answer t on a line.
+// queue and n stay two: fixed memory with its count beside, as Desk has them.
 pub(crate) fn queue_fits(line: u8, queue: [Waiting; 8], n: usize) -> bool
     ensures { result ≡ every (waiting_fits line) (take n queue) }
 {
-    let mut i: usize = 0;
-    while i < 8 {
-        if n <= i {
-            return true;
-        }
-        let waiting = queue[i];
-        let rec = waiting.rec;
-        if !may_reply(line, rec) {
-            return false;
-        }
-        i = i + 1;
-    }
-    true
+    queue
+        .iter()
+        .take(n)
+        .all(|waiting| may_reply(line, waiting.rec))
 }
 
 // The places of a queue without the oldest, each one nearer; the last stands twice.
 pub fn shift(q: [Waiting; 8]) -> [Waiting; 8]
     ensures { result ≡ shifted q }
 {
-    let b = q[1];
-    let c = q[2];
-    let d = q[3];
-    let e = q[4];
-    let f = q[5];
-    let g = q[6];
-    let h = q[7];
-    [b, c, d, e, f, g, h, h]
+    let mut moved = q;
+    moved.copy_within(1.., 0);
+    moved
 }

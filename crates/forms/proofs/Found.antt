@@ -36,7 +36,7 @@ wider s t imp (f ∷ fs) h =
     (λ e. on_test (s f) (λ q. clash (sym e ∙ imp f q)) (λ q. rw e (wider s t imp fs (rw q at h))))
 
 -- the first row that passes a test is the first that passes a narrower one which it passes
-pub first-still : (s t : Form → Bool) → ((f : Form) → s f ≡ true → t f ≡ true) → (fs : List Form)
+first-still : (s t : Form → Bool) → ((f : Form) → s f ≡ true → t f ≡ true) → (fs : List Form)
     → (look_in fs t).found ≡ true → s (look_in fs t).form ≡ true → look_in fs s ≡ look_in fs t
 unfolding look_in
 first-still s t imp [] h k = refl

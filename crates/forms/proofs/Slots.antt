@@ -4,11 +4,13 @@ use mathlib.Core.List.{List, [], ◌∷◌}
 use Prim.Native.Nat.{ℕ, zero, suc, ◌+◌, ◌-◌, ◌≤◌, ◌<◌}
 use native.Mathlib.Omega.{arith}
 use lib.Dec.{ltb}
-use lib.ListN.{drop, get_or}
+use lib.ListN.{length, take, drop, get_or}
+use Rattle.std.specs.List.{sum_by}
+use Rattle.std.proofs.lemmas.List.Sums.{sum_by-cons}
 use lib.Seq.{drop-drop}
 use borrow.Author.Tests.{ltb-false}
 use Rattle.laws.proofs.Passes.{on_test}
-use Rattle.forms.specs.Forms.{slots_in, count_of, width_in}
+use Rattle.forms.specs.Forms.{slots_in, slots_of, count_of, width_in, width_of}
 use Rattle.forms.specs.declared.rows.Form.{Form}
 use Rattle.characters.proofs.Parts.{part-first}
 
@@ -30,21 +32,20 @@ pub slots_end : (ls ws : List ℕ) (n j : ℕ) → n ≤ j → slots_in (n - j) 
 unfolding slots_in
 slots_end ls ws n j h = let e : n - j ≡ 0 = omega arith in rw e
 
--- how many bytes packets fill does not depend on their letters
-pub width-blind : (n : ℕ) (ls ls' ws : List ℕ) → width_in (slots_in n ls ws) ≡ width_in (slots_in n ls' ws)
-unfolding slots_in width_in
-width-blind zero ls ls' ws = refl
-width-blind (suc n) ls ls' ws = ap (λ (k : ℕ). 1 + get_or ws 0 0 + k) (width-blind n (drop 1 ls) (drop 1 ls') (drop 1 ws))
-
 -- the width of the packets from the j-th on
 pub width-here : (ls ws : List ℕ) (n j : ℕ) → j < n
     → width_in (slots_in (n - j) (drop j ls) (drop j ws)) ≡ 1 + get_or ws j 0 + width_in (slots_in (n - (j + 1)) (drop (j + 1) ls) (drop (j + 1) ws))
 unfolding width_in
 width-here ls ws n j h = rw (slots-step ls ws n j h)
 
--- and where no letters are named
-pub width-step : (ws : List ℕ) (n j : ℕ) → j < n
-    → width_in (slots_in (n - j) [] (drop j ws)) ≡ 1 + get_or ws j 0 + width_in (slots_in (n - (j + 1)) [] (drop (j + 1) ws))
-width-step ws n j h =
-    width-blind (n - j) [] (drop j []) (drop j ws) ∙ width-here [] ws n j h
-    ∙ ap (λ (k : ℕ). 1 + get_or ws j 0 + k) (width-blind (n - (j + 1)) (drop (j + 1) []) [] (drop (j + 1) ws))
+-- the width of the first n packets, by the lengths of their values
+width-first : (n : ℕ) (ls ws : List ℕ) → n ≤ length ws → sum_by (λ len. 1 + len) (take n ws) ≡ width_in (slots_in n ls ws)
+unfolding width_in slots_in
+width-first zero ls ws h = refl
+width-first (suc n) ls [] h = absurd (omega arith)
+width-first (suc n) ls (w ∷ ws) h = sum_by-cons (λ len. 1 + len) w (take n ws) ∙ ap (λ (k : ℕ). 1 + w + k) (width-first n (drop 1 ls) ws (omega arith))
+
+-- and of all of them
+pub width_sum : (f : Form) (n : ℕ) → n ≡ count_of f → n ≤ length f.lens → sum_by (λ len. 1 + len) (take n f.lens) ≡ width_of f
+unfolding width_of slots_of
+width_sum f n e h = rw (← e) (width-first n f.letters f.lens h)

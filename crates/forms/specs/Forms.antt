@@ -1,12 +1,9 @@
 -- What the table of forms says of a type on a line (rules L1 to L19). Assumes nothing.
-use Rattle.std.specs.Prelude.{ℕ, zero, suc, ◌+◌, ◌-◌, List, [], ◌∷◌, map, Bool, true, false, cond, not, eqb, ltb, get_or, drop}
+use Rattle.std.specs.Prelude.{ℕ, zero, suc, ◌+◌, ◌-◌, List, [], ◌∷◌, map, Bool, true, false, cond, not, eqb, ltb, get_or, drop, Option, Some, None}
 use Prim.Native.Char.{code}
 use Rattle.laws.specs.Truth.{both, pad}
 use Rattle.forms.specs.declared.rows.Form.{Form}
 unfoldable pub use Rattle.forms.specs.Rows.{forms}
-use Rattle.forms.specs.declared.table.Looked.{Looked}
-use Rattle.forms.specs.declared.table.Sought.{Sought}
-use Rattle.forms.specs.declared.table.Sought.TheVariants.{Kind, Letter, Data}
 use Rattle.forms.specs.declared.lines.Line.{Line}
 use Rattle.forms.specs.Lines.{lines, is_line}
 
@@ -37,11 +34,15 @@ is_data line f =
     (cond (eqb f.kind (code "N")) false
     (on_line f line)))
 
--- the test for what is looked for
-abbrev pub test_of : Sought → ℕ → Form → Bool
-test_of (Kind kind) line f = of_type line kind f
-test_of (Letter kind letter) line f = of_letter line kind letter f
-test_of Data line f = is_data line f
+-- a row that was looked for: whether there is one, and it, or what stands for it
+pub record Looked : Type 0 where
+  pub found : Bool
+  pub form : Form
+
+-- the same of a row that may be missing
+abbrev pub looked_of : Option Form → Looked
+looked_of None = record { found = false; form = none }
+looked_of (Some f) = record { found = true; form = f }
 
 -- the first row that passes a test
 unfoldable pub look_in : List Form → (Form → Bool) → Looked

@@ -6,6 +6,7 @@ ghost use Rattle.forms.specs.Lines.{is_line, line_of, is_key};
 pub const LINE_COUNT: usize = 3;
 
 // A line: the type that the master polls with, T0's limit while it is reduced and T0's limit (the same where it never is), and whether A carries a key position when it answers t.
+// reduced is no Option: with the same number in both, t0_of picks one of the two and asks nothing more.
 #[derive(Clone, Copy)]
 pub struct Line {
     pub poll: u8,
@@ -39,30 +40,28 @@ pub const LINES: [Line; LINE_COUNT] = [
 ];
 
 // Whether there is such a line.
+// A line is a u8 and no enum, as is a key position: public functions answer for every byte, and refuse 15 where it is no line.
 pub fn is_line(line: u8) -> bool
     ensures { result ≡ is_line line }
 {
-    if line < 1 {
-        false
-    } else {
-        (line as usize) < LINE_COUNT + 1
-    }
+    1 <= line && usize::from(line) <= LINE_COUNT
 }
 
 // The row of a line, and a row that polls with nothing where there is no such line.
+// No Option: docs/PROMISES.md has it as Lines.line_of, which has such a row. No get: is_line says which lines there are.
 #[tactic(auto, unfolding(crate::specs::Lines::line_of))]
 pub fn line_of(line: u8) -> Line
     ensures { result ≡ line_of line }
 {
-    let table = LINES;
     if is_line(line) {
-        return table[(line - 1) as usize];
-    }
-    Line {
-        poll: 0,
-        reduced: 0,
-        t0: 0,
-        keyed: false,
+        LINES[usize::from(line - 1)]
+    } else {
+        Line {
+            poll: 0,
+            reduced: 0,
+            t0: 0,
+            keyed: false,
+        }
     }
 }
 
@@ -70,10 +69,5 @@ pub fn line_of(line: u8) -> Line
 pub fn is_key(b: u8) -> bool
     ensures { result ≡ is_key b }
 {
-    match b {
-        b'A' => true,
-        b'X' => true,
-        b'Y' => true,
-        _ => false,
-    }
+    matches!(b, b'A' | b'X' | b'Y')
 }

@@ -1,164 +1,99 @@
 // What the telegram forms say of a line (rules L1 to L19).
-ghost use Rattle.std.specs.Prelude.{◌≡◌, ◌≤◌};
+ghost use Rattle.std.specs.Prelude.{◌≡◌, ◌+◌, ◌≤◌, length, sum_by};
 ghost use Rattle.forms.specs.Rows.{forms};
-ghost use Rattle.forms.specs.Forms.{on_line, of_type, of_letter, is_data, test_of, look_in, form_of, by_master, by_slave, data_type, count_of, width_of};
+ghost use Rattle.forms.specs.Forms.{on_line, of_type, of_letter, is_data, looked_of, look_in, type_row, form_of, by_master, by_slave, data_type, count_of, width_of};
 
-use crate::lines::{LINE_COUNT, is_line};
-use crate::rows::{Form, ROW_COUNT, rows};
+use crate::lines::is_line;
+use crate::rows::{Form, rows};
 use characters::slices::wide;
-
-// A row that was looked for.
-#[derive(Clone, Copy)]
-pub struct Looked {
-    pub found: bool,
-    pub form: Form,
-}
 
 // Whether a form is on a line.
 #[tactic(auto, unfolding(crate::specs::Forms::on_line))]
 pub(crate) fn on_line(form: Form, line: u8) -> bool
     ensures { result ≡ on_line form line }
 {
-    let lines = form.lines;
-    if is_line(line) {
-        lines[(line - 1) as usize]
-    } else {
-        false
-    }
-}
-
-// What is looked for in the table: a row of a type, one whose first packet has a letter besides, or the slave's data.
-#[derive(Clone, Copy)]
-enum Sought {
-    Kind(u8),
-    Letter(u8, u8),
-    Data,
+    is_line(line) && form.lines[usize::from(line - 1)]
 }
 
 // Whether a form is of a type and on a line.
+// Line, type and letter are u8, as a telegram has them, and stay arguments: the definitions take them apart, and most functions ask two of the three.
 fn of_type(form: Form, line: u8, kind: u8) -> bool
     ensures { result ≡ of_type line kind form }
 {
-    if form.kind == kind {
-        on_line(form, line)
-    } else {
-        false
-    }
+    form.kind == kind && on_line(form, line)
 }
 
 // Whether its first packet has a letter besides.
 fn of_letter(form: Form, line: u8, kind: u8, letter: u8) -> bool
     ensures { result ≡ of_letter line kind letter form }
 {
-    let letters = form.letters;
-    if letters[0] == letter {
-        of_type(form, line, kind)
-    } else {
-        false
-    }
+    form.letters[0] == letter && of_type(form, line, kind)
 }
 
 // Whether a form is the slave's data on a line: the slave sends it, and it is neither A nor N.
 fn is_data(form: Form, line: u8) -> bool
     ensures { result ≡ is_data line form }
 {
-    if form.master {
-        return false;
-    }
-    if form.kind == b'A' {
-        return false;
-    }
-    if form.kind == b'N' {
-        return false;
-    }
-    on_line(form, line)
+    !form.master && !matches!(form.kind, b'A' | b'N') && on_line(form, line)
 }
 
-// Whether a form on a line is what is looked for.
-fn fits(form: Form, line: u8, sought: Sought) -> bool
-    ensures { result ≡ test_of sought line form }
+// The first row of a type on a line.
+#[tactic(auto, unfolding(crate::specs::Forms::type_row))]
+fn of_this_type(line: u8, kind: u8) -> Option<Form>
+    ensures { looked_of result ≡ type_row line kind }
 {
-    match sought {
-        Sought::Kind(kind) => of_type(form, line, kind),
-        Sought::Letter(kind, letter) => of_letter(form, line, kind, letter),
-        Sought::Data => is_data(form, line),
-    }
+    rows()
+        .iter()
+        .find(|form| of_type(**form, line, kind))
+        .copied()
 }
 
-// The first row that is what is looked for; where there is none, a form of no type on no line.
-fn look(line: u8, sought: Sought) -> Looked
-    ensures { result ≡ look_in forms (test_of sought line) }
+// The first of them whose first packet has a letter.
+fn of_this_letter(line: u8, kind: u8, letter: u8) -> Option<Form>
+    ensures { looked_of result ≡ look_in forms (of_letter line kind letter) }
 {
-    let table = rows();
-    let mut i: usize = 0;
-    while i < ROW_COUNT {
-        let form = table[i];
-        if fits(form, line, sought) {
-            return Looked {
-                found: true,
-                form: form,
-            };
-        }
-        i = i + 1;
-    }
-    Looked {
-        found: false,
-        form: Form {
-            kind: 0,
-            lines: [false; LINE_COUNT],
-            master: false,
-            count: 0,
-            letters: [0; 10],
-            lens: [0; 10],
-        },
-    }
+    rows()
+        .iter()
+        .find(|form| of_letter(**form, line, kind, letter))
+        .copied()
+}
+
+// The first row that is the slave's data on a line.
+fn of_data(line: u8) -> Option<Form>
+    ensures { looked_of result ≡ look_in forms (is_data line) }
+{
+    rows().iter().find(|form| is_data(**form, line)).copied()
 }
 
 // The row of a type on a line by the letter of its first packet; where no row has the letter, the type's first row.
-#[tactic(auto, unfolding(crate::specs::Forms::form_of, crate::specs::Forms::type_row))]
-pub fn form_of(line: u8, kind: u8, letter: u8) -> Looked
-    ensures { result ≡ form_of line kind letter }
+#[tactic(auto, unfolding(crate::specs::Forms::form_of))]
+pub fn form_of(line: u8, kind: u8, letter: u8) -> Option<Form>
+    ensures { looked_of result ≡ form_of line kind letter }
 {
-    let looked = look(line, Sought::Letter(kind, letter));
-    if looked.found {
-        return looked;
-    }
-    look(line, Sought::Kind(kind))
+    of_this_letter(line, kind, letter).or_else(|| of_this_type(line, kind))
 }
 
 // Whether the master sends this type on this line.
-#[tactic(auto, unfolding(crate::specs::Forms::type_row))]
 pub fn by_master(line: u8, kind: u8) -> bool
     ensures { result ≡ by_master line kind }
 {
-    let looked = look(line, Sought::Kind(kind));
-    if looked.found {
-        looked.form.master
-    } else {
-        false
-    }
+    of_this_type(line, kind).is_some_and(|form| form.master)
 }
 
 // Whether the slave sends this type on this line.
-#[tactic(auto, unfolding(crate::specs::Forms::type_row))]
 pub(crate) fn by_slave(line: u8, kind: u8) -> bool
     ensures { result ≡ by_slave line kind }
 {
-    let looked = look(line, Sought::Kind(kind));
-    if looked.found {
-        !looked.form.master
-    } else {
-        false
-    }
+    of_this_type(line, kind).is_some_and(|form| !form.master)
 }
 
 // The slave's data type on a line (B, 5 or K), 0 where there is no such line.
+// 0 and no Option: docs/PROMISES.md has it as Forms.data_type, which says 0.
 #[tactic(auto, unfolding(crate::specs::Forms::data_type))]
 pub fn data_type(line: u8) -> u8
     ensures { result ≡ data_type line }
 {
-    let looked = look(line, Sought::Data);
-    looked.form.kind
+    of_data(line).map_or(0, |form| form.kind)
 }
 
 // How many packets a form has, at most ten.
@@ -166,24 +101,22 @@ pub fn data_type(line: u8) -> u8
 pub fn count_of(form: Form) -> usize
     ensures { result ≡ count_of form }
 {
-    if 10 < form.count {
-        10
-    } else {
-        form.count as usize
-    }
+    usize::from(form.count).min(10)
+}
+
+// How many bytes packets fill, by the lengths of their values.
+fn width_by(lens: &[u8]) -> usize
+    requires { length lens.now ≤ 10 }
+    ensures total { result ≡ sum_by (λ len. 1 + len) lens.now }
+    ensures small { result ≤ 2560 }
+{
+    lens.iter().map(|len| 1 + wide(*len)).sum()
 }
 
 // How many bytes a form's packets fill.
+#[tactic(auto, using(crate::proofs::Slots::count_small, crate::proofs::Slots::width_sum))]
 pub fn width_of(form: Form) -> usize
     ensures { (result ≡ width_of form) × (result ≤ 2560) }
 {
-    let lens = form.lens;
-    let count = count_of(form);
-    let mut width: usize = 0;
-    let mut j: usize = 0;
-    while j < count {
-        width = width + 1 + wide(lens[j]);
-        j = j + 1;
-    }
-    width
+    width_by(&form.lens[..count_of(form)])
 }

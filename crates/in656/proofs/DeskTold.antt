@@ -1,4 +1,5 @@
 -- Wherever a hearing of the desk is not refused, its result tells what the frame reads as. Assumes nothing.
+use Rattle.std.specs.Prelude.{Option, None, Some}
 use mathlib.Core.Path.{◌≡◌, refl, ap, ◌∙◌}
 use mathlib.Core.Bool.{Bool, true, false}
 use mathlib.Core.List.{List, []}
@@ -18,8 +19,6 @@ use Rattle.records.specs.Answers.{Answer, accepted, refused}
 use Rattle.reading.specs.Reading.{reading_of}
 use Rattle.clock.specs.Counters.{is_number, number_in}
 use Rattle.desk.specs.declared.state.Desk.{Desk}
-use Rattle.desk.specs.declared.replying.Wanted.{Wanted}
-use Rattle.desk.specs.declared.replying.Wanted.TheVariants.{None, Is}
 use Rattle.desk.specs.Deciding.{What, Ruling, repeats, matter_in, good_frame, bad_frame, ruled_by, ruling_in}
 use Rattle.desk.specs.Deciding as r
 use Rattle.desk.specs.Replying.{asked_of, polled_of, reply_of}
@@ -77,15 +76,15 @@ again p (refused x) c l = (refl, refl)
 
 -- a handled telegram tells its contents' refusal
 module _ (line position queued : ℕ) (oldest : Record) where
-  asked : (w : Wanted) → ((handled_result (asked_of w).1).contents ≡ 0) × ((handled_result (asked_of w).1).place ≡ 0)
+  asked : (w : Option Record) → ((handled_result (asked_of w).1).contents ≡ 0) × ((handled_result (asked_of w).1).place ≡ 0)
   asked None = (refl, refl)
-  asked (Is rec) = (refl, refl)
+  asked (Some rec) = (refl, refl)
 
   polled : ((handled_result (polled_of line position queued oldest).1).contents ≡ 0) × ((handled_result (polled_of line position queued oldest).1).place ≡ 0)
   unfolding polled_of
   polled = on_test (eqb queued 0) (λ e. rw e (refl, refl)) (λ e. rw e (refl, refl))
 
-  answers : (w : Wanted) (what : What)
+  answers : (w : Option Record) (what : What)
       → ((handled_result (reply_of line position w queued oldest what).1).contents ≡ (what_no what).number) × ((handled_result (reply_of line position w queued oldest what).1).place ≡ (what_no what).place)
   answers w (r.contents x) = (refl, refl)
   answers w r.not_master = (refl, refl)

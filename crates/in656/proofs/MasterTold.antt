@@ -1,4 +1,5 @@
 -- Wherever a hearing of the master is not refused, its result tells what the frame reads as. Assumes nothing.
+use Rattle.std.specs.Prelude.{Option, None, Some}
 use mathlib.Core.Path.{◌≡◌, refl, sym, ap}
 use mathlib.Core.Bool.{true}
 use mathlib.Core.List.{List, [], ◌∷◌, ◌++◌}
@@ -11,8 +12,6 @@ use Rattle.characters.specs.Marks.{longest}
 use Rattle.forms.specs.Lines.{is_line}
 use Rattle.records.specs.Refusals.{No, no}
 use Rattle.records.specs.Records.{type_of}
-use Rattle.records.specs.declared.answers.Spot.{Spot}
-use Rattle.records.specs.declared.answers.Spot.TheVariants.{Nowhere, At}
 use Rattle.records.specs.Answers.{Answer, Fault, good, fails, first_fault}
 use Rattle.records.specs.Answers as w
 use Rattle.reading.specs.Frame.{frame_checks}
@@ -51,10 +50,10 @@ taken line sent (w.accepted rec number) =
 taken line sent (w.Answer.refused x) = refl
 
 -- a fault of the frame is the reading's
-in-front : (k : ℕ) (x : No) (xs ys : List Spot) → first_fault k xs ≡ fails x → first_fault k (xs ++ ys) ≡ fails x
+in-front : (k : ℕ) (x : No) (xs ys : List (Option ℕ)) → first_fault k xs ≡ fails x → first_fault k (xs ++ ys) ≡ fails x
 in-front k x [] ys h = no-pass (sym h)
-in-front k x (Nowhere ∷ xs) ys h = in-front (k + 1) x xs ys h
-in-front k x (At place ∷ xs) ys h = h
+in-front k x (None ∷ xs) ys h = in-front (k + 1) x xs ys h
+in-front k x (Some place ∷ xs) ys h = h
 
 bad-frame : (line : ℕ) (frame : List ℕ) (x : No) → is_line line ≡ true → first_fault 1 (frame_checks frame) ≡ fails x → x ≡ refusal_in (reading_of line frame)
 unfolding reading_of checks

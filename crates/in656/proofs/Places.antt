@@ -1,17 +1,21 @@
 -- The packets of a form by their places and letters. Assumes nothing.
-use mathlib.Core.Path.{◌≡◌, refl, ap, ◌∙◌}
+use mathlib.Core.Path.{◌≡◌, refl, ap}
 use mathlib.Core.List.{List, [], ◌∷◌}
-use Prim.Native.Nat.{ℕ, zero, suc, ◌+◌, ◌*◌, ◌-◌, ◌≤◌, ◌<◌}
+use Prim.Native.Nat.{ℕ, zero, suc, ◌+◌, ◌*◌, ◌≤◌, ◌<◌}
 use native.Mathlib.Omega.{arith}
-use lib.ListN.{length, drop, get_or}
-use borrow.Author.Tests.{lt-ltb, le-ltb, eq-eqb, ne_eqb}
+use lib.ListN.{length, take, drop, get_or, length-take}
+use borrow.Author.Tests.{lt-ltb, le-ltb, ltb-true}
 use Rattle.records.specs.Refusals.{no}
 use Rattle.forms.specs.declared.rows.Form.{Form}
 use Rattle.forms.specs.Forms.{slots_in, slots_of, count_of}
-use Rattle.forms.proofs.Slots.{slots-step, slots_end}
+use Rattle.forms.proofs.Slots.{count_small}
+use Rattle.laws.proofs.Passes.{on_test}
+use Rattle.std.specs.Prelude.{None, Some}
+use Rattle.std.specs.List.{position_or_len, position}
+use lib.Dec.{eqb, ltb}
 use Rattle.in656.specs.declared.results.result.In656Result.{In656Result}
 use Rattle.in656.specs.Results.Result.{zeros, saying, with_written, with_count}
-use Rattle.in656.specs.Packets.{sender_of, packet_count, no_slot, packet_result, letter_place, at, refused, lying_in}
+use Rattle.in656.specs.Packets.{sender_of, packet_count, no_slot, packet_result, letter_place, place_found, at, refused, lying_in}
 
 -- how many packets a form has is its count
 slots_length : (n : ℕ) (ls ws : List ℕ) → length (slots_in n ls ws) ≡ n
@@ -46,35 +50,41 @@ module _ (f : Form) (index count : ℕ) (r : In656Result) (e : count ≡ count_o
       rw (lt-ltb index (packet_count f) (omega (arith, packet-count f, e)))
       (rw (slot_at (count_of f) index f.letters f.lens (omega (arith, e)), slots_length (count_of f) f.letters f.lens, ← e, ← s) q)
 
--- the place of a letter does not depend on the lengths
-pub place-blind : (letter n : ℕ) (ls ws ws' : List ℕ) → letter_place (slots_in n ls ws) letter ≡ letter_place (slots_in n ls ws') letter
+-- the place of a letter among a form's packets is its place among the form's letters
+placed : (letter n : ℕ) (ls ws : List ℕ) → n ≤ length ls → letter_place (slots_in n ls ws) letter ≡ position_or_len (λ (l : ℕ). eqb l letter) (take n ls)
 unfolding slots_in letter_place
-place-blind letter zero ls ws ws' = refl
-place-blind letter (suc n) ls ws ws' = rw (place-blind letter n (drop 1 ls) (drop 1 ws) (drop 1 ws'))
+placed letter zero ls ws h = refl
+placed letter (suc n) [] ws h = absurd (omega arith)
+placed letter (suc n) (l ∷ ls) ws h =
+    on_test (eqb l letter)
+    (λ e. rw e refl)
+    (λ e. let p = placed letter n ls (drop 1 ws) (omega arith) in rw e (omega (arith, p)))
 
--- the packet at place j has the letter, or it is one behind it
-module _ (letter : ℕ) (ls : List ℕ) (n j : ℕ) where
-  pub place_here : j < n → get_or ls j 0 ≡ letter → letter_place (slots_in (n - j) (drop j ls) []) letter ≡ 0
-  unfolding letter_place
-  place_here h e = place-blind letter (n - j) (drop j ls) [] (drop j []) ∙ rw (slots-step ls [] n j h, eq-eqb (get_or ls j 0) letter e)
+pub letter_found : (f : Form) (letter : ℕ) → count_of f ≤ length f.letters → position (λ (l : ℕ). eqb l letter) (take (count_of f) f.letters) ≡ place_found f letter
+unfolding slots_of
+letter_found f letter h =
+    let p = placed letter (count_of f) f.letters f.lens h in
+    let l : length (take (count_of f) f.letters) ≡ packet_count f = omega (arith, packet-count f, length-take (count_of f) f.letters) in
+    rw (p, ← l)
 
-  pub place-on : j < n → (get_or ls j 0 ≡ letter → ⊥) → letter_place (slots_in (n - j) (drop j ls) []) letter ≡ suc (letter_place (slots_in (n - (j + 1)) (drop (j + 1) ls) []) letter)
-  unfolding letter_place
-  place-on h e =
-      let q : letter_place (slots_in (n - j) (drop j ls) (drop j [])) letter ≡ suc (letter_place (slots_in (n - (j + 1)) (drop (j + 1) ls) (drop (j + 1) [])) letter) =
-      rw (slots-step ls [] n j h, ne_eqb (get_or ls j 0) letter e) in
-      place-blind letter (n - j) (drop j ls) [] (drop j []) ∙ q ∙ ap suc (place-blind letter (n - (j + 1)) (drop (j + 1) ls) (drop (j + 1) []) [])
-
-  pub place_end : n ≤ j → letter_place (slots_in (n - j) (drop j ls) []) letter ≡ 0
-  unfolding letter_place
-  place_end h = rw (slots_end (drop j ls) [] n j h)
+pub count_most : (f : Form) → count_of f ≤ 10
+count_most f = count_small f
 
 -- a letter of a form, and one of none
-module _ (f : Form) (letter place count : ℕ) (p : place ≡ letter_place (slots_of f) letter) (e : count ≡ count_of f) where
-  pub lies-here : place < count → at (1 + 4 * place) ≡ lying_in f letter
+module _ (f : Form) (letter : ℕ) where
+  pub lies-here : (place : ℕ) → Some place ≡ place_found f letter → (place < 10) × (at (1 + 4 * place) ≡ lying_in f letter)
   unfolding lying_in
-  lies-here h = rw (packet-count f, ← e, ← p, lt-ltb place count h)
+  lies-here place h =
+      on_test (ltb (letter_place (slots_of f) letter) (packet_count f))
+      (λ e.
+      let p : place ≡ letter_place (slots_of f) letter = let z = rw e at h in cc in
+      let l = ltb-true (letter_place (slots_of f) letter) (packet_count f) e in
+      (omega (arith, p, l, packet-count f, count_small f), rw (e, p)))
+      (λ e. let z = rw e at h in cc)
 
-  pub lies-nowhere : count ≤ place → refused (no 10 0) ≡ lying_in f letter
+  pub lies-nowhere : None ≡ place_found f letter → refused (no 10 0) ≡ lying_in f letter
   unfolding lying_in
-  lies-nowhere h = rw (packet-count f, ← e, ← p, le-ltb place count h)
+  lies-nowhere h =
+      on_test (ltb (letter_place (slots_of f) letter) (packet_count f))
+      (λ e. let z = rw e at h in cc)
+      (λ e. rw e)

@@ -1,6 +1,7 @@
 -- What is said in words: each refusal and each answer has words of its own, and they have room. Assumes nothing.
+use Rattle.std.specs.Prelude.{Result, Ok, Err}
 use mathlib.Core.Path.{◌≡◌, refl, sym, ap, ◌∙◌}
-use mathlib.Core.Bool.{Bool, true, cond}
+use mathlib.Core.Bool.{Bool, true, false, cond}
 use mathlib.Core.List.{List, [], ◌∷◌}
 use Prim.Native.Nat.{ℕ, zero, suc, ◌+◌, ◌<◌}
 use native.Mathlib.Omega.{arith}
@@ -15,13 +16,11 @@ use Rattle.text.specs.Fields.{same_text}
 use Rattle.records.specs.Refusals.{refusal_of}
 use Rattle.records.specs.declared.refusals.Refusal as r
 use Rattle.desk.specs.declared.replying.Source as s
-use Rattle.desk.specs.declared.answers.Outcome as o
 use Rattle.desk.specs.declared.heard.Heard as h
 use Rattle.master.specs.declared.answers.Answer as a
 use Rattle.master.specs.declared.answers.Sending as g
 use Rattle.master.specs.declared.answers.Cause as c
 use Rattle.master.specs.declared.answers.Reason as y
-use Rattle.records.specs.declared.answers.Reading as e
 use Rattle.records.specs.Answers as n
 use Rattle.reading.specs.Reading.{reading_of}
 use Rattle.desk.specs.Heard as d
@@ -153,9 +152,9 @@ refused : {A : Type 0} (x : r.Refusal) → (refusal_of x).number ≡ 0 → A
 refused x q = let l = (from-bounds 1 20 (refusal_of x).number (numbered x)).0 in let z : ⊥ = omega (arith, l, q) in absurd z
 
 pub each-done : EachDone
-each-done o.TheVariants.Done q = lit< tt
-each-done o.TheVariants.Lost q = lit< tt
-each-done (o.TheVariants.Refused x) q = refused x q
+each-done (Ok false) q = lit< tt
+each-done (Ok true) q = lit< tt
+each-done (Err x) q = refused x q
 
 -- what a hearing says of the frame leaves outcome and detail as they are
 with-reading : (table : Table) (x : In656Result) (z : n.Answer) → SaidOf table x → SaidOf table (with_reading x z)
@@ -181,37 +180,37 @@ master-frame (m.ignored m.run_out) line frame x f = with-reading master_table x 
 master-frame (m.ignored (m.Why.refused y)) line frame x f = f
 master-frame (m.ignored m.other_number) line frame x f = with-reading master_table x (reading_of line frame) f
 
-heard : (answer : h.Heard) → SaidOf desk_table (heard_result (d.told_of answer))
-heard (h.TheVariants.Refused x) q = refused x q
-heard (h.TheVariants.Silent lost x) q = lit< tt
-heard (h.TheVariants.Fault lost n) q = lit< tt
-heard (h.TheVariants.Repeat n) q = lit< tt
-heard (h.TheVariants.Handled lost s.TheVariants.Requested n) q = lit< tt
-heard (h.TheVariants.Handled lost s.TheVariants.Queue n) q = lit< tt
-heard (h.TheVariants.Handled lost (s.TheVariants.Key b) n) q = lit< tt
-heard (h.TheVariants.Handled lost (s.TheVariants.Panel rec) n) q = lit< tt
-heard (h.TheVariants.Handled lost (s.TheVariants.Contents x) n) q = lit< tt
-heard (h.TheVariants.Handled lost s.TheVariants.NotMaster n) q = lit< tt
-heard (h.TheVariants.Handled lost s.TheVariants.NothingSet n) q = lit< tt
+heard : (answer : Result h.Heard r.Refusal) → SaidOf desk_table (heard_result (d.told_of answer))
+heard (Err x) q = refused x q
+heard (Ok (h.TheVariants.Silent lost x)) q = lit< tt
+heard (Ok (h.TheVariants.Fault lost n)) q = lit< tt
+heard (Ok (h.TheVariants.Repeat n)) q = lit< tt
+heard (Ok (h.TheVariants.Handled lost s.TheVariants.Requested n)) q = lit< tt
+heard (Ok (h.TheVariants.Handled lost s.TheVariants.Queue n)) q = lit< tt
+heard (Ok (h.TheVariants.Handled lost (s.TheVariants.Key b) n)) q = lit< tt
+heard (Ok (h.TheVariants.Handled lost (s.TheVariants.Panel rec) n)) q = lit< tt
+heard (Ok (h.TheVariants.Handled lost (s.TheVariants.Contents x) n)) q = lit< tt
+heard (Ok (h.TheVariants.Handled lost s.TheVariants.NotMaster n)) q = lit< tt
+heard (Ok (h.TheVariants.Handled lost s.TheVariants.NothingSet n)) q = lit< tt
 
 pub each-heard : EachHeard
 each-heard answer line frame = desk-frame (d.told_of answer) line frame (heard_result (d.told_of answer)) (heard answer)
 
 pub each-told : EachTold
-each-told (a.TheVariants.Refused x) q = refused x q
-each-told a.TheVariants.Nothing q = lit< tt
-each-told (a.TheVariants.Sent g.TheVariants.Offered count n) q = lit< tt
-each-told (a.TheVariants.Sent g.TheVariants.Again count n) q = lit< tt
-each-told (a.TheVariants.Sent g.TheVariants.Poll count n) q = lit< tt
-each-told (a.TheVariants.Answered rec count) q = lit< tt
-each-told (a.TheVariants.OtherKind (e.TheVariants.Accepted rec number) count) q = lit< tt
-each-told (a.TheVariants.OtherKind (e.TheVariants.Refused x) count) q = lit< tt
-each-told (a.TheVariants.GivenUp c.TheVariants.Silence count) q = lit< tt
-each-told (a.TheVariants.GivenUp c.TheVariants.Rejected count) q = lit< tt
-each-told (a.TheVariants.Ignored y.TheVariants.Free) q = lit< tt
-each-told (a.TheVariants.Ignored y.TheVariants.RunOut) q = lit< tt
-each-told (a.TheVariants.Ignored (y.TheVariants.Refused x)) q = lit< tt
-each-told (a.TheVariants.Ignored y.TheVariants.OtherNumber) q = lit< tt
+each-told (Err x) q = refused x q
+each-told (Ok a.TheVariants.Nothing) q = lit< tt
+each-told (Ok (a.TheVariants.Sent g.TheVariants.Offered count n)) q = lit< tt
+each-told (Ok (a.TheVariants.Sent g.TheVariants.Again count n)) q = lit< tt
+each-told (Ok (a.TheVariants.Sent g.TheVariants.Poll count n)) q = lit< tt
+each-told (Ok (a.TheVariants.Answered rec count)) q = lit< tt
+each-told (Ok (a.TheVariants.OtherKind (Ok numbered) count)) q = lit< tt
+each-told (Ok (a.TheVariants.OtherKind (Err x) count)) q = lit< tt
+each-told (Ok (a.TheVariants.GivenUp c.TheVariants.Silence count)) q = lit< tt
+each-told (Ok (a.TheVariants.GivenUp c.TheVariants.Rejected count)) q = lit< tt
+each-told (Ok (a.TheVariants.Ignored y.TheVariants.Free)) q = lit< tt
+each-told (Ok (a.TheVariants.Ignored y.TheVariants.RunOut)) q = lit< tt
+each-told (Ok (a.TheVariants.Ignored (y.TheVariants.Refused x))) q = lit< tt
+each-told (Ok (a.TheVariants.Ignored y.TheVariants.OtherNumber)) q = lit< tt
 
 pub each-frame : EachFrame
 each-frame answer line frame = master-frame (m.told_of answer) line frame (told_result (m.told_of answer)) (each-told answer)

@@ -1,10 +1,9 @@
 -- Looking at an end's state, which changes nothing (include/in656.h; rule F13). Assumes nothing.
-use Rattle.std.specs.Prelude.{Bool, not, cond, List, ℕ, leb, eqb, length, get_or}
+use Rattle.std.specs.Prelude.{Bool, not, cond, List, ℕ, leb, eqb, length, get_or, Option, None, Some}
 use Rattle.records.specs.Refusals.{no}
+use Rattle.records.specs.Answers.{Fault, good, fails}
 use Rattle.records.specs.declared.records.Record.{Record}
 use Rattle.desk.specs.declared.state.Desk.{Desk}
-use Rattle.desk.specs.declared.replying.Wanted.{Wanted}
-use Rattle.desk.specs.declared.replying.Wanted.TheVariants.{None, Is}
 use Rattle.desk.specs.Waiting.{blank}
 use Rattle.desk.specs.State as d
 use Rattle.master.specs.declared.state.Master.{Master}
@@ -19,7 +18,11 @@ use Rattle.in656.specs.declared.results.result.In656Result.{In656Result}
 use Rattle.in656.specs.Results.Result.{Call, saying, refusing, with_number, with_count, with_lost, with_record}
 use Rattle.in656.specs.Results.Desks.{desk_done}
 
--- 15 where the state is out of its ranges, then 14 where the block has another length, else what is seen
+-- 15 where the state is out of its ranges, then 14 where the block has another length
+unfoldable pub look_fault : Bool → List ℕ → Fault
+look_fault fits block = cond fits (cond (eqb (length block) record_length) good (fails (no 14 0))) (fails (no 15 0))
+
+-- so it is refused, else it is what is seen
 unfoldable pub looked : Bool → Call → List ℕ → Call
 looked fits seen block = cond fits (cond (eqb (length block) record_length) seen (refusing (no 14 0), block)) (refusing (no 15 0), block)
 
@@ -31,9 +34,9 @@ shown r rec block = (with_record r, filled record_length (record_bytes rec) bloc
 abbrev pub desk_seen : Desk → In656Result
 desk_seen d = with_lost (with_count (with_number (saying desk_done d.key) d.last.0) d.queued) (not d.good)
 
-abbrev pub set_shown : Wanted → In656Result → List ℕ → Call
+abbrev pub set_shown : Option Record → In656Result → List ℕ → Call
 set_shown None r block = (r, block)
-set_shown (Is rec) r block = shown r rec block
+set_shown (Some rec) r block = shown r rec block
 
 abbrev pub desk_look : List ℕ → List ℕ → Call
 desk_look b block = looked (d.in_ranges (ds.load_of b)) (set_shown (ds.load_of b).requested (desk_seen (ds.load_of b)) block) block

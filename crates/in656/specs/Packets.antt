@@ -1,17 +1,16 @@
 -- The packets of telegrams, and the values of record blocks by their packets' letters (include/in656.h; rules F17 to F19). Assumes nothing.
-use Rattle.std.specs.Prelude.{◌≡◌, ℕ, suc, ◌+◌, ◌*◌, ◌<◌, ◌^◌, true, cond, List, [], ◌∷◌, eqb, ltb, length, take, drop, get_or, replicate}
+use Rattle.std.specs.Prelude.{◌≡◌, ℕ, suc, ◌+◌, ◌*◌, ◌<◌, ◌^◌, true, cond, List, [], ◌∷◌, eqb, ltb, length, take, drop, get_or, replicate, Option, None, Some, Result, Ok, Err}
 use Rattle.records.specs.Refusals.{No, no, refusal_of}
 use Rattle.records.specs.Records.{type_of, values_of, record_of}
 use Rattle.records.specs.declared.records.Record.{Record}
 use Rattle.forms.specs.Lines.{is_line}
 use Rattle.forms.specs.declared.rows.Form.{Form}
-use Rattle.forms.specs.declared.table.Looked.{Looked}
-use Rattle.forms.specs.Forms.{Slot, slots_of, count_of, form_of}
+use Rattle.forms.specs.Forms.{Looked, Slot, slots_of, count_of, form_of}
 use Rattle.text.specs.Fours.{four_bytes, four_said}
 use Rattle.text.specs.Putting.{puts}
 use Rattle.blocks.specs.Layout.{stretch, filled}
 use Rattle.blocks.specs.Record.{record_length, record_bytes, record_in, is, Narrow}
-use Rattle.in656.specs.declared.packets.Lies as p
+use Rattle.records.specs.declared.refusals.Refusal.{Refusal}
 use Rattle.in656.specs.declared.results.result.In656Result.{In656Result}
 use Rattle.in656.specs.Inputs.{byte_or, line_in}
 use Rattle.in656.specs.Results.Result.{Call, zeros, saying, refusing, with_written, with_count, with_record}
@@ -66,14 +65,18 @@ unfoldable pub letter_place : List Slot → ℕ → ℕ
 letter_place [] letter = 0
 letter_place (p ∷ ps) letter = cond (eqb p.letter letter) 0 (suc (letter_place ps letter))
 
+-- the place of a letter among a form's packets, where one has it
+abbrev pub place_found : Form → ℕ → Option ℕ
+place_found f letter = cond (ltb (letter_place (slots_of f) letter) (packet_count f)) (Some (letter_place (slots_of f) letter)) None
+
 -- where a value lies in a block, or a refusal's number and place
 pub data Lying : Type 0 where
   at : ℕ → Lying
   refused : No → Lying
 
-abbrev pub lies : p.Lies → Lying
-lies (p.TheVariants.At n) = at n
-lies (p.TheVariants.Refused x) = refused (refusal_of x)
+abbrev pub lies : Result ℕ Refusal → Lying
+lies (Ok n) = at n
+lies (Err x) = refused (refusal_of x)
 
 -- the value of the packet at place i stands behind the type and i values of four bytes; 10 where a form has no packet of the letter
 unfoldable pub lying_in : Form → ℕ → Lying

@@ -1,10 +1,10 @@
 -- Words for a person: of the refusals, and of the desk's and the master's answers (include/in656.h; rules F14 to F16). Assumes nothing.
-use Rattle.std.specs.Prelude.{◌≡◌, ℕ, suc, ◌<◌, ◌≤◌, cond, List, [], ◌∷◌, ◌++◌, eqb, leb, length, drop, get_or}
+use Rattle.std.specs.Prelude.{◌≡◌, ℕ, suc, ◌<◌, ◌≤◌, cond, List, [], ◌∷◌, ◌++◌, eqb, leb, length, drop, get_or, Result, Bool}
 use Prim.Native.Char.{code}
 use Rattle.laws.specs.Text.{codes}
 use Rattle.records.specs.Refusals.{no, refusal_of}
 use Rattle.records.specs.declared.refusals.Refusal.{Refusal}
-use Rattle.desk.specs.declared.answers.Outcome.{Outcome}
+use Rattle.records.specs.declared.refusals.Refusal.{Refusal}
 use Rattle.desk.specs.declared.heard.Heard.{Heard}
 use Rattle.desk.specs.Answers.{done_of}
 use Rattle.desk.specs.Heard as d
@@ -144,13 +144,13 @@ SaidOf table r = r.refusal ≡ 0 → Said table r.outcome r.detail
 
 -- whatever a desk or a master answers, and a hearing also with what it says of the frame
 abbrev pub EachDone : Type 0
-EachDone = (answer : Outcome) → SaidOf desk_table (done_result (done_of answer))
+EachDone = (answer : Result Bool Refusal) → SaidOf desk_table (done_result (done_of answer))
 
 abbrev pub EachHeard : Type 0
-EachHeard = (answer : Heard) (line : ℕ) (frame : List ℕ) → SaidOf desk_table (desk_frame (d.told_of answer) line frame (heard_result (d.told_of answer)))
+EachHeard = (answer : Result Heard Refusal) (line : ℕ) (frame : List ℕ) → SaidOf desk_table (desk_frame (d.told_of answer) line frame (heard_result (d.told_of answer)))
 
 abbrev pub EachTold : Type 0
-EachTold = (answer : Answer) → SaidOf master_table (told_result (m.told_of answer))
+EachTold = (answer : Result Answer Refusal) → SaidOf master_table (told_result (m.told_of answer))
 
 abbrev pub EachFrame : Type 0
-EachFrame = (answer : Answer) (line : ℕ) (frame : List ℕ) → SaidOf master_table (master_frame (m.told_of answer) line frame (told_result (m.told_of answer)))
+EachFrame = (answer : Result Answer Refusal) (line : ℕ) (frame : List ℕ) → SaidOf master_table (master_frame (m.told_of answer) line frame (told_result (m.told_of answer)))

@@ -6,17 +6,19 @@ ghost use Rattle.in656.specs.Due.{due_result, desk_due, master_due};
 use crate::results::result::{In656Result, done, refuse, say};
 use clock::due::Due;
 
-// Outcome: the tick after so many milliseconds does something.
+// Outcome: the tick after so many milliseconds does something. Its number is the C interface's (include/in656.h).
 const AFTER: u32 = 1;
 
 // What is due.
-fn of_due(due: Due) -> In656Result
-    ensures { result ≡ due_result (when_of due) }
-{
-    match due {
-        Due::Refused(refusal) => refuse(refusal),
-        Due::Never => done(),
-        Due::After(left) => say(AFTER, left),
+impl From<Due> for In656Result {
+    ghost from_gives = { λ due r. r ≡ due_result (when_of due) };
+
+    fn from(due: Due) -> In656Result {
+        match due {
+            Err(refusal) => refuse(refusal),
+            Ok(None) => done(),
+            Ok(Some(left)) => say(AFTER, left),
+        }
     }
 }
 
@@ -24,14 +26,12 @@ fn of_due(due: Due) -> In656Result
 pub extern "C" fn in656_desk_due(state: &[u8], time: u32) -> In656Result
     ensures { result ≡ desk_due state.now time }
 {
-    let desk = blocks::desks::load(state);
-    of_due(desk.due(time))
+    In656Result::from(blocks::desks::load(state).due(time))
 }
 
 #[unsafe(no_mangle)]
 pub extern "C" fn in656_master_due(state: &[u8], time: u32) -> In656Result
     ensures { result ≡ master_due state.now time }
 {
-    let master = blocks::masters::load(state);
-    of_due(master.due(time))
+    In656Result::from(blocks::masters::load(state).due(time))
 }

@@ -23,11 +23,5 @@ pub extern "C" fn in656_version() -> u32
 pub extern "C" fn in656_same_edition(version: u32) -> u32
     ensures { result ≡ cond (same_edition version) 1 0 }
 {
-    if version / 65536 != MAJOR {
-        return 0;
-    }
-    if MINOR < version % 65536 / 256 {
-        return 0;
-    }
-    1
+    u32::from(version / 65536 == MAJOR && version % 65536 / 256 <= MINOR)
 }

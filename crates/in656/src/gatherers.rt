@@ -3,8 +3,8 @@ ghost use Rattle.std.specs.Prelude.{◌≡◌};
 ghost use Rattle.in656.specs.Gatherers.{gatherer_start, gatherer_byte, gatherer_hit};
 
 use crate::results::result::{In656Result, done, refuse};
-use crate::results::telegrams::of_gathered;
-use blocks::gatherers::{GATHERER_LENGTH, gather_byte, gather_hit, save};
+use blocks::gatherers::{GATHERER_LENGTH, gather_byte, gather_hit};
+use blocks::layout::save;
 use cutting::gather::Gatherer;
 use records::refusals::Refusal;
 
@@ -24,14 +24,12 @@ pub extern "C" fn in656_gatherer_start(state: &mut [u8]) -> In656Result
 pub extern "C" fn in656_gatherer_byte(state: &mut [u8], byte: u8) -> In656Result
     ensures { (result, state.new) ≡ gatherer_byte state.old byte }
 {
-    let answer = gather_byte(state, byte);
-    of_gathered(answer)
+    In656Result::from(gather_byte(state, byte))
 }
 
 #[unsafe(no_mangle)]
 pub extern "C" fn in656_gatherer_hit(state: &mut [u8]) -> In656Result
     ensures { (result, state.new) ≡ gatherer_hit state.old }
 {
-    let answer = gather_hit(state);
-    of_gathered(answer)
+    In656Result::from(gather_hit(state))
 }

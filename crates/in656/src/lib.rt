@@ -1,4 +1,6 @@
 // The C face (include/in656.h): the exported functions, on numbers and lent bytes.
+// Their parameters stand as the header has them. C lends blocks of any length and says a line as any number: each call tests both,
+// with the refusals that the header gives it.
 #![tactic(auto)]
 
 pub mod desks;

@@ -1,38 +1,34 @@
 // Reading and writing a log record.
+// Parameters and tests of lengths and lines are as lib.rt says.
 ghost use Rattle.std.specs.Prelude.{◌≡◌};
 ghost use Rattle.in656.specs.Logs.{mark_in, log_read_call, log_write_call};
 
-use crate::results::log::{HIT, MASTER, SLAVE, of_next};
+use crate::results::log::{HIT, MASTER, SLAVE};
 use crate::results::result::{In656Result, refuse};
-use crate::results::telegrams::of_writing;
-use logs::marks::{Mark, Marked};
+use logs::marks::Mark;
 use logs::reader::next_record;
 use logs::writer::write_record;
 use records::refusals::Refusal;
 
 // The mark of a number.
+// No TryFrom: the mark is a type of another crate, and the numbers are the header's.
 #[tactic(auto, unfolding(crate::specs::Logs::mark_in))]
-fn mark_in(number: u32) -> Marked
+fn mark_in(number: u32) -> Option<Mark>
     ensures { result ≡ mark_in number }
 {
-    if number == MASTER {
-        return Marked::Is(Mark::Master);
+    match number {
+        MASTER => Some(Mark::Master),
+        SLAVE => Some(Mark::Slave),
+        HIT => Some(Mark::Hit),
+        _ => None,
     }
-    if number == SLAVE {
-        return Marked::Is(Mark::Slave);
-    }
-    if number == HIT {
-        return Marked::Is(Mark::Hit);
-    }
-    Marked::Unknown
 }
 
 #[unsafe(no_mangle)]
 pub extern "C" fn in656_log_read(log: &[u8], from: usize) -> In656Result
     ensures { result ≡ log_read_call log.now from }
 {
-    let next = next_record(log, from);
-    of_next(next)
+    In656Result::from(next_record(log, from))
 }
 
 #[unsafe(no_mangle)]
@@ -40,10 +36,7 @@ pub extern "C" fn in656_log_write(mark: u32, time: u32, bytes: &[u8], out: &mut 
     ensures { (result, out.new) ≡ log_write_call mark time bytes.now out.old }
 {
     match mark_in(mark) {
-        Marked::Is(known) => {
-            let writing = write_record(known, time, bytes, out);
-            of_writing(writing)
-        }
-        Marked::Unknown => refuse(Refusal::Mark(0)),
+        Some(known) => In656Result::from(write_record(known, time, bytes, out)),
+        None => refuse(Refusal::Mark(0)),
     }
 }

@@ -1,48 +1,64 @@
 // Looking at a state of bytes, which changes nothing.
+// Parameters and tests of lengths and lines are as lib.rt says.
 ghost use Rattle.std.specs.Prelude.{◌≡◌, ◌≤◌};
-ghost use Rattle.in656.specs.Looks.{shown, desk_seen, set_shown, desk_look, waiting_shown, desk_waiting, master_seen, master_shown, master_look};
+ghost use Rattle.records.specs.Answers.{fault_of};
+ghost use Rattle.in656.specs.Looks.{look_fault, shown, desk_seen, set_shown, desk_look, waiting_shown, desk_waiting, master_seen, master_shown, master_look};
 
 use crate::results::desks::DONE;
 use crate::results::result::{In656Result, refuse, say};
-use blocks::heads::flag_byte;
-use blocks::record::{RECORD_LENGTH, put_record};
-use desk::state::{Desk, Wanted};
+use blocks::layout::save;
+use blocks::record::RECORD_LENGTH;
+use desk::state::Desk;
 use master::state::Master;
 use records::records::Record;
 use records::refusals::Refusal;
 
-// Outcome of a look at the master.
+// Outcome of a look at the master, a number of the C interface (include/in656.h).
 const FREE: u32 = 1;
 
 const WAITING: u32 = 2;
+
+// 15 where a state is out of its ranges, then 14 where the block has another length.
+#[tactic(auto, unfolding(crate::specs::Looks::look_fault))]
+fn may_look(fits: bool, block: &[u8]) -> Result<(), Refusal>
+    ensures { fault_of result ≡ look_fault fits block.now }
+{
+    if !fits {
+        return Err(Refusal::State);
+    }
+    if block.len() != RECORD_LENGTH {
+        return Err(Refusal::NoRoom);
+    }
+    Ok(())
+}
 
 // A record is shown: it fills the block.
 fn show(r: In656Result, rec: Record, block: &mut [u8]) -> In656Result
     ensures { (result, block.new) ≡ shown r rec block.old }
 {
-    put_record(block, rec);
+    save(rec, block);
     r.with_record()
 }
 
 // What is seen of a desk.
+// Two functions ask for the count; a struct for it would be made at once before each.
 fn desk_seen(desk: Desk) -> In656Result
     requires { desk.queued ≤ 8 }
     ensures { result ≡ desk_seen desk }
 {
-    let last = desk.last;
-    let r = say(DONE, desk.key as u32);
-    let n = r.with_number(last.0);
-    let c = n.with_count(desk.queued as u8);
-    c.with_lost(!desk.good)
+    say(DONE, u32::from(desk.key))
+        .with_number(desk.last.0)
+        .with_count(desk.queued as u8)
+        .with_lost(!desk.good)
 }
 
 // The record set for r is shown.
-fn show_set(wanted: Wanted, r: In656Result, block: &mut [u8]) -> In656Result
+fn show_set(wanted: Option<Record>, r: In656Result, block: &mut [u8]) -> In656Result
     ensures { (result, block.new) ≡ set_shown wanted r block.old }
 {
     match wanted {
-        Wanted::None => r,
-        Wanted::Is(rec) => show(r, rec, block),
+        None => r,
+        Some(rec) => show(r, rec, block),
     }
 }
 
@@ -51,14 +67,10 @@ pub extern "C" fn in656_desk_look(state: &[u8], block: &mut [u8]) -> In656Result
     ensures { (result, block.new) ≡ desk_look state.now block.old }
 {
     let desk = blocks::desks::load(state);
-    if !desk.in_ranges() {
-        return refuse(Refusal::State);
+    if let Err(refusal) = may_look(desk.in_ranges(), block) {
+        return refuse(refusal);
     }
-    if block.len() != RECORD_LENGTH {
-        return refuse(Refusal::NoRoom);
-    }
-    let wanted = desk.requested;
-    show_set(wanted, desk_seen(desk), block)
+    show_set(desk.requested, desk_seen(desk), block)
 }
 
 // The record of the queue at an index is shown.
@@ -67,16 +79,12 @@ fn show_waiting(desk: Desk, index: u32, block: &mut [u8]) -> In656Result
     requires { desk.queued ≤ 8 }
     ensures { (result, block.new) ≡ waiting_shown desk index block.old }
 {
-    let r = say(DONE, 0);
-    let counted = r.with_count(desk.queued as u8);
+    let counted = say(DONE, 0).with_count(desk.queued as u8);
     let at = index as usize;
     if desk.queued <= at {
         return counted;
     }
-    let queue = desk.queue;
-    let waiting = queue[at];
-    let rec = waiting.rec;
-    show(counted, rec, block)
+    show(counted, desk.queue[at].rec, block)
 }
 
 #[unsafe(no_mangle)]
@@ -84,11 +92,8 @@ pub extern "C" fn in656_desk_waiting(state: &[u8], index: u32, block: &mut [u8])
     ensures { (result, block.new) ≡ desk_waiting state.now index block.old }
 {
     let desk = blocks::desks::load(state);
-    if !desk.in_ranges() {
-        return refuse(Refusal::State);
-    }
-    if block.len() != RECORD_LENGTH {
-        return refuse(Refusal::NoRoom);
+    if let Err(refusal) = may_look(desk.in_ranges(), block) {
+        return refuse(refusal);
     }
     show_waiting(desk, index, block)
 }
@@ -97,11 +102,10 @@ pub extern "C" fn in656_desk_waiting(state: &[u8], index: u32, block: &mut [u8])
 fn master_seen(outcome: u32, master: Master) -> In656Result
     ensures { result ≡ master_seen outcome master }
 {
-    let number = master.number;
-    let r = say(outcome, flag_byte(master.operation) as u32);
-    let n = r.with_number(number.0);
-    let c = n.with_count(master.count);
-    c.with_lost(!master.good)
+    say(outcome, u32::from(master.operation))
+        .with_number(master.number.0)
+        .with_count(master.count)
+        .with_lost(!master.good)
 }
 
 // The record that a master waits on is shown.
@@ -112,8 +116,7 @@ fn show_master(master: Master, block: &mut [u8]) -> In656Result
     if master.count == 0 {
         return master_seen(FREE, master);
     }
-    let rec = master.rec;
-    show(master_seen(WAITING, master), rec, block)
+    show(master_seen(WAITING, master), master.rec, block)
 }
 
 #[unsafe(no_mangle)]
@@ -121,11 +124,8 @@ pub extern "C" fn in656_master_look(state: &[u8], block: &mut [u8]) -> In656Resu
     ensures { (result, block.new) ≡ master_look state.now block.old }
 {
     let master = blocks::masters::load(state);
-    if !master.in_ranges() {
-        return refuse(Refusal::State);
-    }
-    if block.len() != RECORD_LENGTH {
-        return refuse(Refusal::NoRoom);
+    if let Err(refusal) = may_look(master.in_ranges(), block) {
+        return refuse(refusal);
     }
     show_master(master, block)
 }

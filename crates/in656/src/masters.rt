@@ -1,30 +1,28 @@
 // The master on a state of bytes.
+// Parameters and tests of lengths and lines are as lib.rt says.
 ghost use Rattle.std.specs.Prelude.{◌≡◌};
 ghost use Rattle.master.specs.Answers.{told_of};
 ghost use Rattle.in656.specs.Masters.{stepped, master_start, master_offer, master_tick, answer_block, master_hear};
 
 use crate::inputs::{line_for, meaning};
 use crate::results::frames::master_frame;
-use crate::results::masters::of_answer;
-use crate::results::result::In656Result;
+use crate::results::result::{In656Result, keep};
 use crate::telegrams::fill;
-use blocks::masters::{MASTER_LENGTH, load, save};
-use blocks::record::{RECORD_LENGTH, put_record};
+use blocks::layout::save;
+use blocks::masters::{MASTER_LENGTH, load};
+use blocks::record::RECORD_LENGTH;
 use master::answers::Answer;
 use master::hearing::hear;
 use master::state::{Master, Step};
+use records::refusals::Refusal;
 
-// The state behind a call is saved where it is not refused.
+// The result and the state behind a call.
 #[tactic(auto, unfolding(crate::specs::Masters::stepped, crate::specs::Masters::master_after))]
 fn close(step: Step, state: &mut [u8]) -> In656Result
     ensures { (result, state.new) ≡ stepped (step.master, told_of step.answer) state.old }
 {
-    let answer = step.answer;
-    let r = of_answer(answer);
-    if r.refusal == 0 {
-        let master = step.master;
-        save(master, state);
-    }
+    let r = In656Result::from(step.answer);
+    keep(r, step.master, state);
     r
 }
 
@@ -32,8 +30,10 @@ fn close(step: Step, state: &mut [u8]) -> In656Result
 pub extern "C" fn in656_master_start(state: &mut [u8], line: u32, time: u32) -> In656Result
     ensures { (result, state.new) ≡ master_start state.old line time }
 {
-    let l = line_for(MASTER_LENGTH, state, line);
-    close(Master::start(l, time), state)
+    close(
+        Master::start(line_for(MASTER_LENGTH, state, line), time),
+        state,
+    )
 }
 
 #[unsafe(no_mangle)]
@@ -46,8 +46,7 @@ pub extern "C" fn in656_master_offer(
     ensures { (result, (state.new, out.new)) ≡ master_offer state.old time block.now out.old }
 {
     let master = load(state);
-    let step = master.offer(time, meaning(block), out);
-    close(step, state)
+    close(master.offer(time, meaning(block), out), state)
 }
 
 #[unsafe(no_mangle)]
@@ -55,17 +54,16 @@ pub extern "C" fn in656_master_tick(state: &mut [u8], time: u32, out: &mut [u8])
     ensures { (result, (state.new, out.new)) ≡ master_tick state.old time out.old }
 {
     let master = load(state);
-    let step = master.tick(time, out);
-    close(step, state)
+    close(master.tick(time, out), state)
 }
 
 // The record of an answer fills the block.
-fn put_answer(answer: Answer, block: &mut [u8])
+fn put_answer(answer: Result<Answer, Refusal>, block: &mut [u8])
     ensures { block.new ≡ answer_block (told_of answer) block.old }
 {
     match answer {
-        Answer::Answered { rec, count: _ } => put_record(block, rec),
-        Answer::OtherKind { reading, count: _ } => fill(reading, block),
+        Ok(Answer::Answered { rec, .. }) => save(rec, block),
+        Ok(Answer::OtherKind { reading, .. }) => fill(reading, block),
         _ => {}
     }
 }
@@ -82,15 +80,10 @@ pub extern "C" fn in656_master_hear(
 {
     let master = load(state);
     if block.len() != RECORD_LENGTH {
-        let mut none = [0u8; 0];
-        let refused = hear(master, time, frame, &mut none);
-        let answer = refused.answer;
-        return of_answer(answer);
+        return In656Result::from(hear(master, time, frame, &mut []).answer);
     }
-    let line = master.line;
     let step = hear(master, time, frame, out);
-    let answer = step.answer;
-    put_answer(answer, block);
+    put_answer(step.answer, block);
     let r = close(step, state);
-    master_frame(r, answer, line, frame)
+    master_frame(r, step.answer, master.line, frame)
 }

@@ -1,16 +1,17 @@
 // Reading, writing and searching.
+// Parameters and tests of lengths and lines are as lib.rt says.
 ghost use Rattle.std.specs.Prelude.{◌≡◌};
 ghost use Rattle.records.specs.Answers.{answer_of};
 ghost use Rattle.in656.specs.Telegrams.{filled_by, read_call, write_call, next_call};
 
 use crate::inputs::{byte_or, is_typed, meaning};
 use crate::results::result::{In656Result, refuse};
-use crate::results::telegrams::{of_reading, of_span, of_writing};
-use blocks::record::{RECORD_LENGTH, put_record};
+use blocks::layout::save;
+use blocks::record::RECORD_LENGTH;
 use cutting::search::span_of;
 use forms::lines::is_line;
 use reading::reading::read;
-use records::answers::Reading;
+use records::answers::{Numbered, Reading};
 use records::refusals::Refusal;
 use writing::writing::write;
 
@@ -18,8 +19,8 @@ use writing::writing::write;
 pub(crate) fn fill(reading: Reading, block: &mut [u8])
     ensures { block.new ≡ filled_by (answer_of reading) block.old }
 {
-    if let Reading::Accepted(rec, _) = reading {
-        put_record(block, rec);
+    if let Ok(Numbered { rec, .. }) = reading {
+        save(rec, block);
     }
 }
 
@@ -37,7 +38,7 @@ pub extern "C" fn in656_read(line: u32, frame: &[u8], block: &mut [u8]) -> In656
     }
     let reading = read(l, frame);
     fill(reading, block);
-    of_reading(reading)
+    In656Result::from(reading)
 }
 
 #[tactic(auto, unfolding(crate::specs::Telegrams::write_call))]
@@ -52,14 +53,12 @@ pub extern "C" fn in656_write(line: u32, block: &[u8], number: u32, out: &mut [u
     if !is_typed(block) {
         return refuse(Refusal::NotSent);
     }
-    let writing = write(l, meaning(block), byte_or(2, number), out);
-    of_writing(writing)
+    In656Result::from(write(l, meaning(block), byte_or(2, number), out))
 }
 
 #[unsafe(no_mangle)]
 pub extern "C" fn in656_next(bytes: &[u8], from: usize) -> In656Result
     ensures { result ≡ next_call bytes.now from }
 {
-    let span = span_of(bytes, from);
-    of_span(span)
+    In656Result::from(span_of(bytes, from))
 }

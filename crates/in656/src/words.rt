@@ -1,4 +1,5 @@
 // Words for a person: of the refusals, and of the desk's and the master's answers.
+// Parameters and tests of lengths and lines are as lib.rt says.
 ghost use Rattle.std.specs.Prelude.{◌≡◌};
 ghost use Rattle.text.specs.Fields.{row_field};
 ghost use Rattle.in656.specs.Inputs.{byte_or};
@@ -11,19 +12,21 @@ use text::fields::field;
 use text::putting::{put_byte, put_text};
 
 // The words of an outcome and its detail. A table has a line for each outcome from 0 on, and in it the words of each detail from 0 on, with bars between.
+// One text, as a person reads it: an array for each line would put quotes and commas around each word.
 fn words_in(table: &[u8], outcome: u32, detail: u32) -> &[u8]
     ensures { result.now ≡ row_field bar (byte_or 255 detail) (row_field line_feed (byte_or 255 outcome) table.now) }
 {
-    let row = field(table, b'\n', byte_or(255, outcome) as usize);
-    field(row, b'|', byte_or(255, detail) as usize)
+    let row = field(table, b'\n', usize::from(byte_or(255, outcome)));
+    field(row, b'|', usize::from(byte_or(255, detail)))
 }
 
 // Puts words to the front of an output, with a 0 behind them.
+// No Display: the words go into a lent output, and there is no heap.
 #[tactic(auto, unfolding(crate::specs::Words::worded))]
 fn put_words(words: &[u8], out: &mut [u8]) -> In656Result
     ensures { (result, out.new) ≡ worded words.now out.old }
 {
-    if words.len() == 0 {
+    if words.is_empty() {
         return refuse(Refusal::Range);
     }
     if out.len() <= words.len() {
@@ -31,10 +34,10 @@ fn put_words(words: &[u8], out: &mut [u8]) -> In656Result
     }
     let n = put_text(out, 0, words);
     put_byte(out, n, 0);
-    let r = done();
-    r.with_written(n)
+    done().with_written(n)
 }
 
+// Three names of the C interface, each with its table: what they share is words_in and put_words.
 #[unsafe(no_mangle)]
 pub extern "C" fn in656_refusal_words(refusal: u32, out: &mut [u8]) -> In656Result
     ensures { (result, out.new) ≡ refusal_words refusal out.old }

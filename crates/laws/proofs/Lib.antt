@@ -4,4 +4,3 @@ pub mod Truths
 pub mod Listed
 pub mod Passes
 pub mod Digits
-pub mod Keys

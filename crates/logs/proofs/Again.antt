@@ -1,4 +1,5 @@
 -- The two round trips of a log record, and a log without gaps. Assumes nothing.
+use Rattle.std.specs.Prelude.{Option, None, Some}
 use mathlib.Core.Path.{◌≡◌, refl, sym, ap, ap₂, ◌∙◌}
 use mathlib.Core.List.{List, [], ◌∷◌, ◌++◌}
 use Prim.Native.Nat.{ℕ, zero, suc, ◌+◌, ◌-◌, ◌*◌, ◌/◌, ◌%◌, ◌<◌}
@@ -14,8 +15,6 @@ use Rattle.text.specs.Fours.{four_bytes, four_said}
 use Rattle.text.proofs.FourBytes.{spelt, four-back}
 use Rattle.logs.specs.declared.marks.Mark.{Mark}
 use Rattle.logs.specs.declared.marks.Mark.TheVariants.{Master, Slave, Hit}
-use Rattle.logs.specs.declared.marks.Marked.{Marked}
-use Rattle.logs.specs.declared.marks.Marked.TheVariants.{Is, Unknown}
 use Rattle.logs.specs.Marks.{mark_of, mark_bytes}
 use Rattle.logs.specs.Records.{log_record, record_bytes}
 use Rattle.logs.specs.Reader.{Found, found, end, refused, record_in}
@@ -38,7 +37,7 @@ right Master = code ">"
 right Slave = code ">"
 right Hit = code "!"
 
-mark-known : (m : Mark) → mark_of (left m) (right m) ≡ Is m
+mark-known : (m : Mark) → mark_of (left m) (right m) ≡ Some m
 unfolding mark_of
 mark-known Master = refl
 mark-known Slave = refl
@@ -79,19 +78,19 @@ written-reads r rest p =
     ∙ (on-found (shaped r.time r.bytes rest r.mark) r.mark r.time 7 (7 + length r.bytes) f
     ∙ ap₂ (λ (u v : List ℕ). (log_record r.mark r.time u ∷ (log_of v).0, (log_of v).1)) b d)
 
-abbrev mark_in : Marked → Mark
-mark_in (Is m) = m
-mark_in Unknown = Master
+abbrev mark_in : Option Mark → Mark
+mark_in (Some m) = m
+mark_in None = Master
 
-abbrev is_mark : Marked → ℕ
-is_mark (Is m) = 1
-is_mark Unknown = 0
+abbrev is_mark : Option Mark → ℕ
+is_mark (Some m) = 1
+is_mark None = 0
 
-no-mark : {A : Type 0} (m : Mark) → Unknown ≡ Is m → A
+no-mark : {A : Type 0} (m : Mark) → None ≡ Some m → A
 no-mark m h = let z : ⊥ = omega (arith, ap is_mark h) in absurd z
 
 -- the bytes that are a mark are its bytes
-mark-back : (x y : ℕ) (m : Mark) → mark_of x y ≡ Is m → mark_bytes m ≡ x ∷ y ∷ []
+mark-back : (x y : ℕ) (m : Mark) → mark_of x y ≡ Some m → mark_bytes m ≡ x ∷ y ∷ []
 unfolding mark_of
 mark-back x y m h =
     on_test (eqb y (code ">"))
@@ -110,7 +109,7 @@ mark-back x y m h =
     (λ c. no-mark m (rw (a, b, c) at h)))
     (λ b. no-mark m (rw (a, b) at h)))
   where
-    is : (q : Mark) → Is q ≡ Is m → x ≡ left q → y ≡ right q → mark_bytes m ≡ x ∷ y ∷ []
+    is : (q : Mark) → Some q ≡ Some m → x ≡ left q → y ≡ right q → mark_bytes m ≡ x ∷ y ∷ []
     is q e u v = ap mark_bytes (sym (ap mark_in e)) ∙ (bytes q ∙ ap₂ (λ (i j : ℕ). i ∷ j ∷ []) (sym u) (sym v))
       where
         bytes : (q : Mark) → mark_bytes q ≡ left q ∷ right q ∷ []

@@ -1,4 +1,5 @@
 -- What stands in front of what is left depends on where that is only by its places. Assumes nothing.
+use Rattle.std.specs.Prelude.{Option, None, Some}
 use mathlib.Core.Path.{◌≡◌, refl, ap, ap₂}
 use mathlib.Core.Bool.{Bool, true, false, cond}
 use mathlib.Core.List.{List}
@@ -9,8 +10,6 @@ use lib.ListN.{length, take, drop, get_or}
 use Rattle.records.specs.Refusals.{no}
 use Rattle.text.specs.Fours.{four_said}
 use Rattle.logs.specs.declared.marks.Mark.{Mark}
-use Rattle.logs.specs.declared.marks.Marked.{Marked}
-use Rattle.logs.specs.declared.marks.Marked.TheVariants.{Is, Unknown}
 use Rattle.logs.specs.Marks.{mark_of, may_have}
 use Rattle.logs.specs.Records.{head}
 use Rattle.logs.specs.Reader.{Found, found, end, refused, known_in, marked_in, record_in}
@@ -37,9 +36,9 @@ module _ (at : ℕ) (s : List ℕ) where
       (ap₂ (λ (i j : ℕ). found mark (four_said (take 4 (drop 2 s))) i j) a b))
       (refused-further 19))
 
-  marked-further : (m : Marked) → marked_in m at s ≡ further at (marked_in m 0 s)
-  marked-further Unknown = refused-further 18
-  marked-further (Is mark) = known-further mark
+  marked-further : (m : Option Mark) → marked_in m at s ≡ further at (marked_in m 0 s)
+  marked-further None = refused-further 18
+  marked-further (Some mark) = known-further mark
 
 pub record-further : Further
 unfolding record_in

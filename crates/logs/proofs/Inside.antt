@@ -1,4 +1,5 @@
 -- A record is found where it stands whole. Assumes nothing.
+use Rattle.std.specs.Prelude.{Option, None, Some}
 use mathlib.Core.Path.{◌≡◌, refl, sym, ap, ◌∙◌}
 use mathlib.Core.Bool.{Bool, true, false}
 use mathlib.Core.List.{List, ◌++◌}
@@ -15,8 +16,6 @@ use Rattle.characters.specs.Marks.{longest}
 use Rattle.text.specs.Fours.{four_said}
 use Rattle.logs.specs.declared.marks.Mark.{Mark}
 use Rattle.logs.specs.declared.marks.Mark.TheVariants.{Master, Slave, Hit}
-use Rattle.logs.specs.declared.marks.Marked.{Marked}
-use Rattle.logs.specs.declared.marks.Marked.TheVariants.{Is, Unknown}
 use Rattle.logs.specs.Marks.{mark_of, may_have}
 use Rattle.logs.specs.Records.{head}
 use Rattle.logs.specs.Reader.{Found, found, end, refused, known_in, marked_in, record_in}
@@ -57,7 +56,7 @@ module _ (at : ℕ) (s : List ℕ) (mark : Mark) (time start behind : ℕ) where
   not_end h = clash (ap is_found h)
 
   -- behind a known mark
-  known-whole : (m : Mark) → mark_of (get_or s 0 0) (get_or s 1 0) ≡ Is m → known_in m at s ≡ found mark time start behind → Whole at s mark time start behind
+  known-whole : (m : Mark) → mark_of (get_or s 0 0) (get_or s 1 0) ≡ Some m → known_in m at s ≡ found mark time start behind → Whole at s mark time start behind
   unfolding known_in
   known-whole m e h =
       on_test (ltb (length s) head)
@@ -70,7 +69,7 @@ module _ (at : ℕ) (s : List ℕ) (mark : Mark) (time start behind : ℕ) where
       (λ k.
       let g : found m (four_said (take 4 (drop 2 s))) (at + head) (at + head + get_or s 6 0) ≡ found mark time start behind = rw (l, p, k) at h in
       record {
-        mark-known = e ∙ ap Is (ap mark_in g);
+        mark-known = e ∙ ap Some (ap mark_in g);
         permitted = ap (λ (y : Mark). may_have y (get_or s 6 0)) (sym (ap mark_in g)) ∙ p;
         all_there = omega (arith, ltb-false (length s) head l, ltb-false (length s - head) (get_or s 6 0) k);
         time-said = ap time_in g;
@@ -79,9 +78,9 @@ module _ (at : ℕ) (s : List ℕ) (mark : Mark) (time start behind : ℕ) where
       }))
       (λ p. not-refused _ (rw (l, p) at h)))
 
-  marked-whole : (m : Marked) → mark_of (get_or s 0 0) (get_or s 1 0) ≡ m → marked_in m at s ≡ found mark time start behind → Whole at s mark time start behind
-  marked-whole Unknown e h = not-refused _ h
-  marked-whole (Is m) e h = known-whole m e h
+  marked-whole : (m : Option Mark) → mark_of (get_or s 0 0) (get_or s 1 0) ≡ m → marked_in m at s ≡ found mark time start behind → Whole at s mark time start behind
+  marked-whole None e h = not-refused _ h
+  marked-whole (Some m) e h = known-whole m e h
 
 pub found-whole : FoundWhole
 unfolding record_in
@@ -97,7 +96,7 @@ pub whole-found : WholeFound
 whole-found at s mark time start behind w =
     let k : known_in mark at s ≡ found mark (four_said (take 4 (drop 2 s))) (at + head) (at + head + get_or s 6 0) =
     sym (whole mark at s (get_or s 6 0) (get_or s 6 0) refl refl (omega (arith, w.all_there)) w.permitted (omega (arith, w.all_there)) (four_said (take 4 (drop 2 s))) (take 4 (drop 2 s)) refl refl) in
-    let m : marked_in (mark_of (get_or s 0 0) (get_or s 1 0)) at s ≡ known_in mark at s = ap (λ (m : Marked). marked_in m at s) w.mark-known in
+    let m : marked_in (mark_of (get_or s 0 0) (get_or s 1 0)) at s ≡ known_in mark at s = ap (λ (m : Option Mark). marked_in m at s) w.mark-known in
     sym (behind-mark at s (get_or s 0 0) (get_or s 1 0) (mark_of (get_or s 0 0) (get_or s 1 0)) (marked_in (mark_of (get_or s 0 0) (get_or s 1 0)) at s)
     (λ e. absurd (omega (arith, w.all_there, e))) (λ e. absurd (omega (arith, w.all_there, e))) refl refl refl refl)
     ∙ (m ∙ (k ∙ rw (w.time-said, w.behind-at, w.start-at)))
@@ -128,9 +127,9 @@ module _ (at : ℕ) (s more : List ℕ) where
       rw (more-long, n, time-still long, l, p, k, room)))
       (λ p. rw (more-long, n, l, p)))
 
-  marked-settled : (m : Marked) → waits (marked_in m at s) ≡ false → marked_in m at (s ++ more) ≡ marked_in m at s
-  marked-settled Unknown h = refl
-  marked-settled (Is m) h = known-settled m h
+  marked-settled : (m : Option Mark) → waits (marked_in m at s) ≡ false → marked_in m at (s ++ more) ≡ marked_in m at s
+  marked-settled None h = refl
+  marked-settled (Some m) h = known-settled m h
 
 pub settled : Settled
 unfolding record_in
@@ -168,9 +167,9 @@ module _ (at : ℕ) (s : List ℕ) where
       (λ k. clash (rw (l, p, k) at h)))
       (λ p. clash (rw (l, p) at h)))
 
-  marked-few : (m : Marked) → waits (marked_in m at s) ≡ true → length s < head + longest
-  marked-few Unknown h = clash h
-  marked-few (Is m) h = known-few m h
+  marked-few : (m : Option Mark) → waits (marked_in m at s) ≡ true → length s < head + longest
+  marked-few None h = clash h
+  marked-few (Some m) h = known-few m h
 
 pub few-wait : FewWait
 unfolding record_in

@@ -1,4 +1,5 @@
 -- What is left of a log where no record stands in it: nothing, or a record cut off. Assumes nothing.
+use Rattle.std.specs.Prelude.{Option, None, Some}
 use mathlib.Core.Path.{◌≡◌, refl, sym, ap, ◌∙◌}
 use mathlib.Core.Bool.{Bool, true, false}
 use mathlib.Core.List.{List, [], ◌∷◌}
@@ -10,8 +11,6 @@ use borrow.Author.Tests.{eqb-true}
 use Rattle.laws.proofs.Passes.{on_test}
 use Rattle.laws.proofs.Truths.{clash}
 use Rattle.logs.specs.declared.marks.Mark.{Mark}
-use Rattle.logs.specs.declared.marks.Marked.{Marked}
-use Rattle.logs.specs.declared.marks.Marked.TheVariants.{Is, Unknown}
 use Rattle.logs.specs.Marks.{mark_of, may_have}
 use Rattle.logs.specs.Records.{head}
 use Rattle.logs.specs.Reader.{Found, found, end, refused, known_in, marked_in, record_in}
@@ -37,9 +36,9 @@ module _ (at : ℕ) (s : List ℕ) where
       (λ p. on_test (ltb (length s - head) (get_or s 6 0)) (λ k. rw (l, p, k)) (λ k. rw (l, p, k)))
       (λ p. rw (l, p)))
 
-  marked-not : (m : Marked) → is_end (marked_in m at s) ≡ false
-  marked-not Unknown = refl
-  marked-not (Is m) = known-not m
+  marked-not : (m : Option Mark) → is_end (marked_in m at s) ≡ false
+  marked-not None = refl
+  marked-not (Some m) = known-not m
 
   pub end_none : record_in at s ≡ end → length s ≡ 0
   unfolding record_in

@@ -1,14 +1,13 @@
 -- What the writer's tests say of the definition. Assumes nothing.
 use mathlib.Core.Path.{◌≡◌, refl, ap, ◌∙◌}
-use mathlib.Core.Bool.{true, false}
+use mathlib.Core.Bool.{true}
 use mathlib.Core.List.{List}
 use Prim.Native.Nat.{ℕ, ◌+◌, ◌≤◌, ◌<◌}
 use native.Mathlib.Omega.{arith}
 use native.Mathlib.Nat.{zero-add}
 use lib.ListN.{length, length-append}
-use borrow.Author.Tests.{le-leb, lt-leb, leb-true, eqb-true}
-use Rattle.records.specs.Refusals.{no}
-use Rattle.records.specs.Answers.{Outcome, written, refused}
+use borrow.Author.Tests.{le-leb, leb-true, eqb-true}
+use Rattle.records.specs.Answers.{Outcome, written}
 use Rattle.text.specs.Putting.{puts, placed}
 use Rattle.text.proofs.Puts.{with-room}
 use Rattle.text.proofs.FourBytes.{four-length}
@@ -29,24 +28,15 @@ unfolding record_bytes
 record-length r = simp length-append (omega (arith, mark-length r.mark, four-length r.time))
 
 -- a length that a record may have is a byte
-pub byte-long : (mark : Mark) (n : ℕ) → may_have mark n ≡ true → n < 256
-byte-long Master n h = omega (arith, leb-true n 66 h)
-byte-long Slave n h = omega (arith, leb-true n 66 h)
-byte-long Hit n h = omega (arith, eqb-true n 0 h)
+pub byte_long : (mark : Mark) (n : ℕ) → may_have mark n ≡ true → n < 256
+byte_long Master n h = omega (arith, leb-true n 66 h)
+byte_long Slave n h = omega (arith, leb-true n 66 h)
+byte_long Hit n h = omega (arith, eqb-true n 0 h)
 
 module _ (r : LogRecord) (out : List ℕ) where
-  pub bad-length : may_have r.mark (length r.bytes) ≡ false → (refused (no 19 0), out) ≡ write_of r out
-  unfolding write_of
-  bad-length h = rw h
-
-  module _ (h : may_have r.mark (length r.bytes) ≡ true) where
-    pub no_room : length out < head + length r.bytes → (refused (no 14 0), out) ≡ write_of r out
-    unfolding write_of
-    no_room l = rw (h, lt-leb (head + length r.bytes) (length out) l)
-
-    pub whole : head + length r.bytes ≤ length out → (k : ℕ) (x : List ℕ) → (k, x) ≡ puts (record_bytes r) 0 out → (written k, x) ≡ write_of r out
-    unfolding write_of placed
-    whole l k x e =
-        let p = e ∙ with-room (record_bytes r) 0 out (omega (arith, record-length r)) in
-        rw (h, le-leb (head + length r.bytes) (length out) l, ← (record-length r))
-        (rw (zero-add (length (record_bytes r))) at (ap {B = Outcome × List ℕ} (λ (y : ℕ × List ℕ). (written y.0, y.1)) p))
+  pub whole : may_have r.mark (length r.bytes) ≡ true → head + length r.bytes ≤ length out → (k : ℕ) (x : List ℕ) → (k, x) ≡ puts (record_bytes r) 0 out → (written k, x) ≡ write_of r out
+  unfolding write_of placed
+  whole h l k x e =
+      let p = e ∙ with-room (record_bytes r) 0 out (omega (arith, record-length r)) in
+      rw (h, le-leb (head + length r.bytes) (length out) l, ← (record-length r))
+      (rw (zero-add (length (record_bytes r))) at (ap {B = Outcome × List ℕ} (λ (y : ℕ × List ℕ). (written y.0, y.1)) p))

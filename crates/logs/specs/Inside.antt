@@ -1,17 +1,16 @@
 -- A record that was found, said without the reader's order (rules Q2 to Q4). Assumes nothing.
-use Rattle.std.specs.Prelude.{◌≡◌, Bool, true, false, List, ◌++◌, ℕ, ◌+◌, ◌≤◌, ◌<◌, eqb, length, take, drop, get_or}
+use Rattle.std.specs.Prelude.{◌≡◌, Bool, true, false, List, ◌++◌, ℕ, ◌+◌, ◌≤◌, ◌<◌, eqb, length, take, drop, get_or, Some}
 use Rattle.records.specs.Refusals.{no}
 use Rattle.characters.specs.Marks.{longest}
 use Rattle.text.specs.Fours.{four_said}
 use Rattle.logs.specs.declared.marks.Mark.{Mark}
-use Rattle.logs.specs.declared.marks.Marked.TheVariants.{Is}
 use Rattle.logs.specs.Marks.{mark_of, may_have}
 use Rattle.logs.specs.Records.{head}
 use Rattle.logs.specs.Reader.{Found, found, end, refused, record_in}
 
 -- the record stands whole in front of what is left: a mark, a time, a length that it may have, and that many bytes
 pub record Whole (at : ℕ) (s : List ℕ) (mark : Mark) (time start behind : ℕ) : Type 0 where
-  pub mark-known : mark_of (get_or s 0 0) (get_or s 1 0) ≡ Is mark
+  pub mark-known : mark_of (get_or s 0 0) (get_or s 1 0) ≡ Some mark
   pub permitted : may_have mark (get_or s 6 0) ≡ true
   pub all_there : head + get_or s 6 0 ≤ length s
   pub time-said : four_said (take 4 (drop 2 s)) ≡ time

@@ -12,33 +12,17 @@ pub enum Mark {
     Hit,
 }
 
-// Two bytes are a mark, or none.
-#[derive(Clone, Copy)]
-pub enum Marked {
-    Is(Mark),
-    Unknown,
-}
-
-// The mark that two bytes are.
+// The mark that two bytes are. It and mark_bytes are no TryFrom and From, since docs/PROMISES.md names both.
 #[tactic(auto, unfolding(crate::specs::Marks::mark_of))]
-pub fn mark_of(left: u8, right: u8) -> Marked
+pub fn mark_of(left: u8, right: u8) -> Option<Mark>
     ensures { result ≡ mark_of left right }
 {
-    if right == b'>' {
-        if left == b'M' {
-            return Marked::Is(Mark::Master);
-        }
-        if left == b'S' {
-            return Marked::Is(Mark::Slave);
-        }
-        return Marked::Unknown;
+    match (left, right) {
+        (b'M', b'>') => Some(Mark::Master),
+        (b'S', b'>') => Some(Mark::Slave),
+        (b'H', b'!') => Some(Mark::Hit),
+        _ => None,
     }
-    if right == b'!' {
-        if left == b'H' {
-            return Marked::Is(Mark::Hit);
-        }
-    }
-    Marked::Unknown
 }
 
 // The two bytes of a mark.
@@ -46,9 +30,9 @@ pub fn mark_bytes(mark: Mark) -> [u8; 2]
     ensures { result ≡ mark_bytes mark }
 {
     match mark {
-        Mark::Master => [b'M', b'>'],
-        Mark::Slave => [b'S', b'>'],
-        Mark::Hit => [b'H', b'!'],
+        Mark::Master => *b"M>",
+        Mark::Slave => *b"S>",
+        Mark::Hit => *b"H!",
     }
 }
 
@@ -57,8 +41,7 @@ pub fn may_have(mark: Mark, n: usize) -> bool
     ensures { result ≡ may_have mark n }
 {
     match mark {
-        Mark::Master => n <= LONGEST,
-        Mark::Slave => n <= LONGEST,
+        Mark::Master | Mark::Slave => n <= LONGEST,
         Mark::Hit => n == 0,
     }
 }

@@ -2,26 +2,25 @@
 ghost use Rattle.std.specs.Prelude.{◌≡◌, ◌+◌, ◌<◌, ◌^◌, length};
 ghost use Rattle.logs.specs.Reader.{next_of, known_in, record_in, record_at, bytes_of};
 
-use crate::marks::{Mark, Marked, mark_of, may_have};
-use characters::slices::{byte_at, less, part, wide};
+use crate::marks::{Mark, mark_of, may_have};
+use characters::slices::part;
 use records::refusals::Refusal;
 use text::fours::four_said;
 
 // Mark, time and length before a record's bytes.
 pub const HEAD: usize = 7;
 
-// What stands at a place of a log: a record, whose bytes go from start to end, where the next begins; nothing, at the end; or a refusal.
+// A record of a log: its bytes go from start to end, where the next begins.
 #[derive(Clone, Copy)]
-pub enum Next {
-    Record {
-        mark: Mark,
-        time: u32,
-        start: usize,
-        end: usize,
-    },
-    End,
-    Refused(Refusal),
+pub struct Entry {
+    pub mark: Mark,
+    pub time: u32,
+    pub start: usize,
+    pub end: usize,
 }
+
+// What stands at a place of a log: a record; nothing, at the end; or a refusal.
+pub type Next = Result<Option<Entry>, Refusal>;
 
 // What is left of a log behind a known mark: under seven bytes is 20, a bad length 19, missing bytes 20.
 #[tactic(auto, unfolding(crate::specs::Reader::known_in))]
@@ -30,22 +29,22 @@ fn known(mark: Mark, rest: &[u8], from: usize) -> Next
     ensures { next_of result ≡ known_in mark from rest.now }
 {
     if rest.len() < HEAD {
-        return Next::Refused(Refusal::CutOff(from));
+        return Err(Refusal::CutOff(from));
     }
-    let n = wide(byte_at(rest, 6));
+    let n = usize::from(rest[6]);
     if !may_have(mark, n) {
-        return Next::Refused(Refusal::Length(from));
+        return Err(Refusal::Length(from));
     }
     if rest.len() - HEAD < n {
-        return Next::Refused(Refusal::CutOff(from));
+        return Err(Refusal::CutOff(from));
     }
     let start = from + HEAD;
-    Next::Record {
+    Ok(Some(Entry {
         mark,
         time: four_said(part(rest, 2, 4)),
         start,
         end: start + n,
-    }
+    }))
 }
 
 // What is left of a log from a place on: nothing is the end, one byte 20, a wrong mark 18.
@@ -54,15 +53,15 @@ fn record_in(rest: &[u8], from: usize) -> Next
     requires { from + length rest.now < 2 ^ 64 }
     ensures { next_of result ≡ record_in from rest.now }
 {
-    if rest.len() == 0 {
-        return Next::End;
-    }
-    if rest.len() == 1 {
-        return Next::Refused(Refusal::CutOff(from));
-    }
-    match mark_of(byte_at(rest, 0), byte_at(rest, 1)) {
-        Marked::Is(mark) => known(mark, rest, from),
-        Marked::Unknown => Next::Refused(Refusal::Mark(from)),
+    match rest {
+        [] => Ok(None),
+        [_] => Err(Refusal::CutOff(from)),
+        [left, right, ..] => {
+            let Some(mark) = mark_of(*left, *right) else {
+                return Err(Refusal::Mark(from));
+            };
+            known(mark, rest, from)
+        }
     }
 }
 
@@ -78,13 +77,7 @@ pub fn bytes_of(log: &[u8], next: Next) -> &[u8]
     ensures { result.now ≡ bytes_of (next_of next) log.now }
 {
     match next {
-        Next::Record {
-            mark: _,
-            time: _,
-            start,
-            end,
-        } => part(log, start, less(end, start)),
-        Next::End => part(log, 0, 0),
-        Next::Refused(_) => part(log, 0, 0),
+        Ok(Some(entry)) => part(log, entry.start, entry.end.saturating_sub(entry.start)),
+        _ => &[],
     }
 }

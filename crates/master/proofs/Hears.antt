@@ -1,4 +1,5 @@
 -- The answers of the master's hearing, one after the other. Assumes nothing.
+use Rattle.std.specs.Prelude.{Ok}
 use mathlib.Core.Path.{◌≡◌, ◌∙◌}
 use mathlib.Core.Bool.{true, false}
 use mathlib.Core.List.{List}
@@ -25,7 +26,7 @@ use Rattle.master.specs.declared.answers.Answer as a
 
 -- an ignored hearing's step
 abbrev pub ignoring : Master → Reason → Step
-ignoring m why = record { master = m; answer = a.TheVariants.Ignored why }
+ignoring m why = record { master = m; answer = Ok (a.TheVariants.Ignored why) }
 
 -- a failed sending with the line good
 module _ (m : Master) (at : ℕ) (out : List ℕ) (v : Verdict) where

@@ -60,17 +60,17 @@ module _ (m : Master) (h : in_ranges m ≡ true) where
   sends b = both_right (ltb m.count 4) _ (busy b)
 
 -- a record that the master may send is permitted
-pub sendable-permits : (line : ℕ) (rec : Record) → sendable line rec ≡ true → permits_record line rec ≡ true
+pub sendable_permits : (line : ℕ) (rec : Record) → sendable line rec ≡ true → permits_record line rec ≡ true
 unfolding sendable
-sendable-permits line rec h = both_right (by_master line (type_of rec)) (permits_record line rec) h
+sendable_permits line rec h = both_right (by_master line (type_of rec)) (permits_record line rec) h
 
 pub sendable-both : (line : ℕ) (rec : Record) → by_master line (type_of rec) ≡ true → permits_record line rec ≡ true → sendable line rec ≡ true
 unfolding sendable
 sendable-both line rec h k = both_true (by_master line (type_of rec)) (permits_record line rec) h k
 
 -- the master may send the poll on each line
-pub poll-sendable : (line : ℕ) → is_line line ≡ true → sendable line (poll_of line) ≡ true
-poll-sendable line h =
+pub poll_sendable : (line : ℕ) → is_line line ≡ true → sendable line (poll_of line) ≡ true
+poll_sendable line h =
     each_line (λ (l : ℕ). sendable l (poll_of l))
     (unfold sendable poll_of forms on_line look_in type_row form_of slots_in count_of slots_of data_type line_of lead_of is_decimal permits ruled permits_number text_of
     number_width permitted_from number_fits permits_value permits_values permits_record narrow numeral_on left_of in_set in refl)

@@ -28,10 +28,10 @@ abbrev pub stepped : Step → List ℕ → Behind
 stepped s out = (s.master, (told_of s.answer, out))
 
 -- what was written is the whole telegram, since there is room
-pub sent-off : (which : Which) (m n : Master) (rec : Record) (count at number bytes : ℕ) (out new : List ℕ) → permits_record m.line rec ≡ true → m.number.0 < 2 → longest ≤ length out
+pub sent_off : (which : Which) (m n : Master) (rec : Record) (count at number bytes : ℕ) (out new : List ℕ) → permits_record m.line rec ≡ true → m.number.0 < 2 → longest ≤ length out
     → n ≡ after_sending m rec count at → number ≡ m.number.0 → (bytes, new) ≡ send_of m.line rec number out → (n, (sent which count bytes, new)) ≡ sending_of which m rec count at out
 unfolding sending_of
-sent-off which m n rec count at number bytes out new p l room e q f =
+sent_off which m n rec count at number bytes out new p l room e q f =
     let g : (bytes, new) ≡ send_of m.line rec m.number.0 out = rw q at f in
     rw (e, ← (g ∙ sent-whole m.line rec m.number.0 out p l room))
 
@@ -51,9 +51,9 @@ module _ (cause : Ground) (g : Bool) (m : Master) (at : ℕ) (out : List ℕ) wh
 
 -- an offer that is not refused is of a free state, and its record is one that the master may send
 module _ (m : Master) (rec : Record) where
-  pub offer-passed : good ≡ offer_fault m rec → (is_free m ≡ true) × ((by_master m.line (type_of rec) ≡ true) × (permits_record m.line rec ≡ true))
+  pub offer_passed : good ≡ offer_fault m rec → (is_free m ≡ true) × ((by_master m.line (type_of rec) ≡ true) × (permits_record m.line rec ≡ true))
   unfolding offer_fault
-  offer-passed h = go (is_free m) (by_master m.line (type_of rec)) (permits_record m.line rec) (sym h)
+  offer_passed h = go (is_free m) (by_master m.line (type_of rec)) (permits_record m.line rec) (sym h)
     where
       go : (f b p : Bool) → cond f (cond b (cond p good (fails (no 13 0))) (fails (no 12 0))) (fails (no 16 0)) ≡ good → (f ≡ true) × ((b ≡ true) × (p ≡ true))
       go true true true e = (refl, (refl, refl))

@@ -1,11 +1,12 @@
 -- What the master's calls answer, in the paper's numbers and values (rules M8, M10 to M16). Assumes nothing.
-use Rattle.std.specs.Prelude.{ℕ}
+use Rattle.std.specs.Prelude.{ℕ, Result, Ok, Err}
 use Rattle.records.specs.Refusals.{No, refusal_of}
 use Rattle.records.specs.declared.records.Record.{Record}
 use Rattle.records.specs.Answers.{Answer, answer_of}
 use Rattle.master.specs.declared.answers.Sending as s
 use Rattle.master.specs.declared.answers.Cause as c
 use Rattle.master.specs.declared.answers.Reason as r
+use Rattle.records.specs.declared.refusals.Refusal.{Refusal}
 use Rattle.master.specs.declared.answers.Answer as a
 
 -- which sending of a telegram it is: the first of an offered record, one again, or the first of a poll
@@ -55,11 +56,14 @@ pub data Told : Type 0 where
   given_up : Ground → ℕ → Told
   ignored : Why → Told
 
-abbrev pub told_of : a.Answer → Told
-told_of (a.TheVariants.Refused x) = refused (refusal_of x)
-told_of a.TheVariants.Nothing = nothing
-told_of (a.TheVariants.Sent sending count bytes) = sent (which_of sending) count bytes
-told_of (a.TheVariants.Answered rec count) = answered rec count
-told_of (a.TheVariants.OtherKind reading count) = other_kind (answer_of reading) count
-told_of (a.TheVariants.GivenUp cause count) = given_up (ground_of cause) count
-told_of (a.TheVariants.Ignored why) = ignored (why_of why)
+abbrev pub did_of : a.Answer → Told
+did_of a.TheVariants.Nothing = nothing
+did_of (a.TheVariants.Sent sending count bytes) = sent (which_of sending) count bytes
+did_of (a.TheVariants.Answered rec count) = answered rec count
+did_of (a.TheVariants.OtherKind reading count) = other_kind (answer_of reading) count
+did_of (a.TheVariants.GivenUp cause count) = given_up (ground_of cause) count
+did_of (a.TheVariants.Ignored why) = ignored (why_of why)
+
+abbrev pub told_of : Result a.Answer Refusal → Told
+told_of (Ok answer) = did_of answer
+told_of (Err x) = refused (refusal_of x)

@@ -8,11 +8,12 @@ use characters::slices::byte_at;
 use clock::counters::{ToSend, number_in};
 use reading::frame::frame_check;
 use reading::reading::read;
-use records::answers::{Check, Reading};
+use records::answers::{Numbered, Reading};
 use records::records::{Record, type_of};
 use records::refusals::Refusal;
 
 // What a heard frame is.
+// Refused is no Err: the frame is refused, and the call goes on. An enum and no closure: the clauses name it (judged_of).
 #[derive(Clone, Copy)]
 pub enum Verdict {
     // refused 1 to 7
@@ -28,6 +29,7 @@ pub enum Verdict {
 }
 
 // A record that answers: a failed sending, a permitted answer, or an answer of another kind.
+// line and sent, record and number stay apart, as the definitions take them (answered_by, taken_of, permitted_answer).
 #[tactic(auto, unfolding(crate::specs::Answering::answered_by))]
 fn on_record(line: u8, sent: u8, rec: Record, number: u8) -> Verdict
     ensures { judged_of result ≡ answered_by line sent rec number }
@@ -38,7 +40,7 @@ fn on_record(line: u8, sent: u8, rec: Record, number: u8) -> Verdict
     if permitted_answer(line, sent, type_of(rec)) {
         return Verdict::Answered(rec);
     }
-    Verdict::OtherKind(Reading::Accepted(rec, number))
+    Verdict::OtherKind(Ok(Numbered { rec, number }))
 }
 
 // What a frame with the number that was sent reads as; contents refused 8 to 11 are an answer of another kind.
@@ -46,8 +48,8 @@ fn on_reading(line: u8, sent: u8, reading: Reading) -> Verdict
     ensures { judged_of result ≡ taken_of line sent (answer_of reading) }
 {
     match reading {
-        Reading::Accepted(rec, number) => on_record(line, sent, rec, number),
-        Reading::Refused(_) => Verdict::OtherKind(reading),
+        Ok(Numbered { rec, number }) => on_record(line, sent, rec, number),
+        Err(_) => Verdict::OtherKind(reading),
     }
 }
 
@@ -56,11 +58,10 @@ fn on_reading(line: u8, sent: u8, reading: Reading) -> Verdict
 pub(crate) fn judge(line: u8, number: ToSend, sent: u8, frame: &[u8]) -> Verdict
     ensures { judged_of result ≡ judge_of line number.0 sent frame.now }
 {
-    let check = frame_check(frame);
-    if let Check::Fails(refusal) = check {
+    if let Err(refusal) = frame_check(frame) {
         return Verdict::Refused(refusal);
     }
-    if !number.is(number_in(byte_at(frame, 4))) {
+    if number != ToSend(number_in(byte_at(frame, 4))) {
         return Verdict::OtherNumber;
     }
     on_reading(line, sent, read(line, frame))

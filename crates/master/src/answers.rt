@@ -19,6 +19,7 @@ pub enum Cause {
 }
 
 // Why a hearing was ignored.
+// Refused is no Err: the frame is refused, and the call is done.
 #[derive(Clone, Copy)]
 pub enum Reason {
     Free,
@@ -27,10 +28,9 @@ pub enum Reason {
     OtherNumber,
 }
 
-// What a call did. A count is the sending count, 1 to 3.
+// What a call did, where it does not refuse. A count is the sending count, 1 to 3.
 #[derive(Clone, Copy)]
 pub enum Answer {
-    Refused(Refusal),
     Nothing,
     Sent {
         sending: Sending,

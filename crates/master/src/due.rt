@@ -16,12 +16,12 @@ impl Master {
         ensures { when_of result ≡ due_of self at }
     {
         if !self.in_ranges() {
-            return Due::Refused(Refusal::State);
+            return Err(Refusal::State);
         }
         if self.count == 0 {
-            Due::After(time_left(at, self.t0, t0_of(self.line, self.operation)))
+            Ok(Some(time_left(at, self.t0, t0_of(self.line, self.operation))))
         } else {
-            Due::After(time_left(at, self.t2, T2))
+            Ok(Some(time_left(at, self.t2, T2)))
         }
     }
 }

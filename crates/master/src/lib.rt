@@ -7,5 +7,6 @@ pub mod due;
 pub mod hearing;
 pub mod rules;
 pub mod sending;
+mod sound;
 pub mod state;
 pub mod times;

@@ -3,7 +3,7 @@ ghost use Rattle.std.specs.Prelude.{◌≡◌};
 ghost use Rattle.master.specs.Times.{reduces, operation_fits, t0_of, operation_after};
 
 use forms::lines::line_of;
-use records::records::{Record, type_of, values_of};
+use records::records::Record;
 
 // Whether T0 is reduced on a line so long as no A has said that the key is in position Operation.
 #[tactic(auto, unfolding(crate::specs::Times::reduces))]
@@ -19,7 +19,7 @@ fn reduces(line: u8) -> bool
 pub(crate) fn operation_fits(line: u8, operation: bool) -> bool
     ensures { result ≡ operation_fits line operation }
 {
-    if operation { reduces(line) } else { true }
+    !operation || reduces(line)
 }
 
 // T0's limit on a line, by whether the last A that answered t said Operation.
@@ -36,15 +36,8 @@ pub(crate) fn t0_of(line: u8, operation: bool) -> u32
 pub(crate) fn operation_after(line: u8, sent: u8, rec: Record, before: bool) -> bool
     ensures { result ≡ operation_after line sent rec before }
 {
-    if sent != b't' {
-        return before;
+    match rec {
+        Record::Approved(key) if sent == b't' => key == u32::from(b'X') && reduces(line),
+        _ => before,
     }
-    if type_of(rec) != b'A' {
-        return before;
-    }
-    let values = values_of(rec);
-    if values[0] != b'X' as u32 {
-        return false;
-    }
-    reduces(line)
 }

@@ -1,4 +1,5 @@
 -- The places of refusals 9, 10 and 11 are the first faults of their kinds. Assumes nothing.
+use Rattle.std.specs.Prelude.{Option, None, Some}
 use mathlib.Core.Path.{◌≡◌, refl, sym, ap, ◌∙◌}
 use mathlib.Core.Bool.{Bool, true, false}
 use mathlib.Core.List.{List, [], ◌∷◌}
@@ -18,13 +19,11 @@ use Rattle.forms.specs.Forms.{forms, Slot, slots_in, count_of, slots_of, width_i
 use Rattle.forms.specs.declared.rows.Form.{Form}
 use Rattle.forms.proofs.Found.{found-row}
 use Rattle.forms.proofs.Slots.{slots_end, width-here}
-use Rattle.records.specs.declared.answers.Spot.{Spot}
-use Rattle.records.specs.declared.answers.Spot.TheVariants.{Nowhere, At}
 use Rattle.records.specs.Answers.{Answer, refused}
 use Rattle.reading.specs.Frame.{field_of, frame_checks}
 use Rattle.reading.specs.Contents.{row_in, outside, wrong_letter, bad_value, misshapen, field_checks}
 use Rattle.reading.specs.Reading.{checks, reading_of}
-use Rattle.reading.proofs.Walk.{byte-in, byte-out, letter-right, letter-wrong, value-right, value-wrong}
+use Rattle.papers.proofs.Walk.{byte-in, byte-out, letter-right, letter-wrong, value-right, value-wrong}
 use Rattle.writing.proofs.RoundTrips.Faults.{needs-held, no-fault}
 use Rattle.papers.specs.Order.{FirstCheck}
 use Rattle.papers.specs.Firsts.{AllInside, FirstOutside, NineFirst, filled_by, letter_place, length_right, letter_right, value_right, EachPacket, FirstPacket, OwnRow, TenFirst, Shaped, ElevenFirst, AcceptedSound}
@@ -32,10 +31,10 @@ use Rattle.papers.proofs.Order.{refused-first, accepted-clean, no-line}
 
 -- a walk along n things: it goes on over one that passes the test, stops at one that fails, and finds nothing behind the last
 record Walk (n : ℕ) (test : ℕ → Bool) (place : ℕ → ℕ) : Type 0 where
-  find : ℕ → Spot
+  find : ℕ → Option ℕ
   on : (j : ℕ) → j < n → test j ≡ true → find j ≡ find (suc j)
-  stop : (j : ℕ) → j < n → test j ≡ false → find j ≡ At (place j)
-  end : find n ≡ Nowhere
+  stop : (j : ℕ) → j < n → test j ≡ false → find j ≡ Some (place j)
+  end : find n ≡ None
 
 module _ (n : ℕ) (test : ℕ → Bool) (place : ℕ → ℕ) (x : Walk n test place) where
   -- the first that fails, and its place
@@ -47,7 +46,7 @@ module _ (n : ℕ) (test : ℕ → Bool) (place : ℕ → ℕ) (x : Walk n test 
     before : (i : ℕ) → i < index → test i ≡ true
 
   -- what the walk from j on finds, with k things left, where all before j pass
-  finds-from : (k j p : ℕ) → j + k ≡ n → ((i : ℕ) → i < j → test i ≡ true) → x.find j ≡ At p → FirstFailing p
+  finds-from : (k j p : ℕ) → j + k ≡ n → ((i : ℕ) → i < j → test i ≡ true) → x.find j ≡ Some p → FirstFailing p
   finds-from zero j p e b h = let q : j ≡ n = omega arith in let z = sym x.end ∙ ap x.find (sym q) ∙ h in clash (cc)
   finds-from (suc k) j p e b h =
       let l : j < n = omega arith in
@@ -56,21 +55,21 @@ module _ (n : ℕ) (test : ℕ → Bool) (place : ℕ → ℕ) (x : Walk n test 
       finds-from k (suc j) p (omega arith)
       (λ i a. order i j (b i) (λ c. let q : i ≡ j = omega arith in rw q t))
       (sym (x.on j l t) ∙ h))
-      (λ t. let z : At (place j) ≡ At p = sym (x.stop j l t) ∙ h in record { index = j; within = l; at_place = cc; fails = t; before = b })
+      (λ t. let z : Some (place j) ≡ Some p = sym (x.stop j l t) ∙ h in record { index = j; within = l; at_place = cc; fails = t; before = b })
 
-  finds-first : (p : ℕ) → x.find 0 ≡ At p → FirstFailing p
+  finds-first : (p : ℕ) → x.find 0 ≡ Some p → FirstFailing p
   finds-first p h = finds-from n 0 p (omega arith) (λ i a. let z : ⊥ = omega arith in absurd z) h
 
   -- where the walk finds nothing from j on, all from j on pass
-  none_from : (k j : ℕ) → j + k ≡ n → x.find j ≡ Nowhere → (i : ℕ) → j ≤ i → i < n → test i ≡ true
+  none_from : (k j : ℕ) → j + k ≡ n → x.find j ≡ None → (i : ℕ) → j ≤ i → i < n → test i ≡ true
   none_from zero j e h i a b = let z : ⊥ = omega arith in absurd z
   none_from (suc k) j e h i a b =
       let l : j < n = omega arith in
       on_test (test j)
       (λ t. order j i (λ c. none_from k (suc j) (omega arith) (sym (x.on j l t) ∙ h) i c b) (λ c. let q : i ≡ j = omega arith in rw q t))
-      (λ t. let z : At (place j) ≡ Nowhere = sym (x.stop j l t) ∙ h in clash (cc))
+      (λ t. let z : Some (place j) ≡ None = sym (x.stop j l t) ∙ h in clash (cc))
 
-  finds-none : x.find 0 ≡ Nowhere → (i : ℕ) → i < n → test i ≡ true
+  finds-none : x.find 0 ≡ None → (i : ℕ) → i < n → test i ≡ true
   finds-none h i = none_from n 0 (omega arith) h i (omega arith)
 
 -- the data field is the bytes from index 5 on, 8 fewer than all
@@ -105,7 +104,7 @@ module _ (s : List ℕ) where
       }
 
   -- what it finds first, and where it finds nothing
-  outside-first : (place : ℕ) → outside 5 (field_of s) ≡ At place → FirstOutside s place
+  outside-first : (place : ℕ) → outside 5 (field_of s) ≡ Some place → FirstOutside s place
   unfolding outsides outside
   outside-first place h =
       let r = finds-first _ _ _ outsides place h in
@@ -117,7 +116,7 @@ module _ (s : List ℕ) where
             ap (λ (k : ℕ). in_set (get_or s k 0)) e ∙ r.before (i - 5) (omega (arith, r.at_place));
       }
 
-  outside-none : outside 5 (field_of s) ≡ Nowhere → AllInside s
+  outside-none : outside 5 (field_of s) ≡ None → AllInside s
   unfolding outsides outside
   outside-none h i a =
       let e : i ≡ 5 + (i - 5) = omega (arith, a.0) in
@@ -180,24 +179,24 @@ module _ (line : ℕ) (s : List ℕ) (f : Form) (right : length_right f s ≡ tr
       }
 
   -- the first packet that fails a test
-  first-packet : (test : ℕ → Bool) (x : Walk (count_of f) test (letter_place f)) (place : ℕ) → x.find 0 ≡ At place → FirstPacket f test place
+  first-packet : (test : ℕ → Bool) (x : Walk (count_of f) test (letter_place f)) (place : ℕ) → x.find 0 ≡ Some place → FirstPacket f test place
   first-packet test x place h =
       let r = finds-first _ _ _ x place h in
       record { packet = r.index; of-form = r.within; at-letter = r.at_place; fails = r.fails; before = λ j a. r.before j (omega arith) }
 
-  letters-first : (place : ℕ) → wrong_letter 5 (slots_of f) (field_of s) ≡ At place → FirstPacket f (letter_right f s) place
+  letters-first : (place : ℕ) → wrong_letter 5 (slots_of f) (field_of s) ≡ Some place → FirstPacket f (letter_right f s) place
   unfolding letters
   letters-first place h = first-packet (letter_right f s) letters place (rw all-packets h)
 
-  values-first : (place : ℕ) → bad_value line (get_or s 3 0) 5 (slots_of f) (field_of s) ≡ At place → FirstPacket f (value_right line f s) place
+  values-first : (place : ℕ) → bad_value line (get_or s 3 0) 5 (slots_of f) (field_of s) ≡ Some place → FirstPacket f (value_right line f s) place
   unfolding values
   values-first place h = first-packet (value_right line f s) values place (rw all-packets h)
 
-  letters-none : wrong_letter 5 (slots_of f) (field_of s) ≡ Nowhere → EachPacket f (letter_right f s)
+  letters-none : wrong_letter 5 (slots_of f) (field_of s) ≡ None → EachPacket f (letter_right f s)
   unfolding letters
   letters-none h = finds-none _ _ _ letters (rw all-packets h)
 
-  values-none : bad_value line (get_or s 3 0) 5 (slots_of f) (field_of s) ≡ Nowhere → EachPacket f (value_right line f s)
+  values-none : bad_value line (get_or s 3 0) 5 (slots_of f) (field_of s) ≡ None → EachPacket f (value_right line f s)
   unfolding values
   values-none h = finds-none _ _ _ values (rw all-packets h)
 
@@ -223,7 +222,7 @@ own line s h =
     }
 
 -- bytes in which checks 8 to 10 find no fault
-shaped : (line : ℕ) (s : List ℕ) → (row_in line s).found ≡ true → outside 5 (field_of s) ≡ Nowhere → misshapen (row_in line s).form (field_of s) ≡ Nowhere
+shaped : (line : ℕ) (s : List ℕ) → (row_in line s).found ≡ true → outside 5 (field_of s) ≡ None → misshapen (row_in line s).form (field_of s) ≡ None
     → Shaped line s (row_in line s).form
 unfolding misshapen
 shaped line s h o m =
@@ -244,7 +243,7 @@ ten-first line s place h =
     record {
       own_row = own line s (needs-held (row_in line s).found 3 (c.none_before 8 (omega arith) (omega arith)));
       inside = outside-none s (c.none_before 9 (omega arith) (omega arith));
-      another-length = λ e. let z : At 5 ≡ At place = rw e at m in cc;
+      another-length = λ e. let z : Some 5 ≡ Some place = rw e at m in cc;
       another-letter = λ e. letters-first line s (row_in line s).form e place (rw e at m);
     }
 

@@ -6,6 +6,7 @@ pub mod Set
 pub mod Order
 pub mod Receiver
 pub mod OneByte
+pub mod Walk
 pub mod Firsts
 pub mod EachForm
 pub mod Writing

@@ -1,4 +1,5 @@
 -- A refusal of reading is the first check that finds a fault. Assumes nothing.
+use Rattle.std.specs.Prelude.{Option, None, Some}
 use mathlib.Core.Path.{◌≡◌, refl, sym, ap, ◌∙◌}
 use mathlib.Core.Bool.{Bool, true, false, cond, not}
 use mathlib.Core.List.{List, [], ◌∷◌}
@@ -18,8 +19,6 @@ use Rattle.forms.proofs.Found.{found-any}
 use Rattle.values.specs.Packets.{lead_of, is_decimal, permits, ruled, permits_number}
 use Rattle.values.specs.Values.{value_of, permitted_from, permitted, narrow, number_fits}
 use Rattle.records.specs.declared.records.Record.{Record}
-use Rattle.records.specs.declared.answers.Spot.{Spot}
-use Rattle.records.specs.declared.answers.Spot.TheVariants.{Nowhere, At}
 use Rattle.records.specs.Answers.{Fault, good, fails, first_fault, accepted, refused, unless}
 use Rattle.reading.specs.Frame.{needs, count_text, summed_of, field_of, frame_checks}
 use Rattle.reading.specs.Contents.{row_in, outside, wrong_letter, bad_value, misshapen, field_checks}
@@ -41,17 +40,17 @@ pub each-occurs : EachOccurs
 each-occurs = refl
 
 -- the first fault of a list whose first check has number j, by its index
-record FirstIn (spots : List Spot) (j k place : ℕ) : Type 0 where
+record FirstIn (spots : List (Option ℕ)) (j k place : ℕ) : Type 0 where
   index : ℕ
   counted : k ≡ j + index
   within : index < length spots
-  finds : get_or spots index Nowhere ≡ At place
-  none_before : (i : ℕ) → i < index → get_or spots i Nowhere ≡ Nowhere
+  finds : get_or spots index None ≡ Some place
+  none_before : (i : ℕ) → i < index → get_or spots i None ≡ None
 
 -- what the first fault of a list says of the list
-first-in : (spots : List Spot) (j k place : ℕ) → first_fault j spots ≡ fails (no k place) → FirstIn spots j k place
+first-in : (spots : List (Option ℕ)) (j k place : ℕ) → first_fault j spots ≡ fails (no k place) → FirstIn spots j k place
 first-in [] j k place h = clash (cc)
-first-in (Nowhere ∷ spots) j k place h =
+first-in (None ∷ spots) j k place h =
     let r : FirstIn spots (j + 1) k place = first-in spots (j + 1) k place h in
     record {
       index = suc r.index;
@@ -60,7 +59,7 @@ first-in (Nowhere ∷ spots) j k place h =
       finds = r.finds;
       none_before = elim [ zero ↦ λ _. refl | suc i ↦ λ l. r.none_before i (omega arith) ];
     }
-first-in (At p ∷ spots) j k place h =
+first-in (Some p ∷ spots) j k place h =
     let q : no j p ≡ no k place = cc in
     let e : j ≡ k = ap (λ (x : No). x.number) q in
     let f : p ≡ place = ap (λ (x : No). x.place) q in
@@ -94,7 +93,7 @@ by-an-end true true = refl
 by-an-end true false = refl
 by-an-end false master = refl
 
-needed : (b : Bool) (place : ℕ) → needs b place ≡ cond b Nowhere (At place)
+needed : (b : Bool) (place : ℕ) → needs b place ≡ cond b None (Some place)
 needed true place = refl
 needed false place = refl
 
@@ -106,7 +105,7 @@ module _ (l : Senders) (x : Exact l) where
 
   eight : EightOn l
   unfolding checks frame_checks field_checks
-  eight s = needed (row_in l.line s).found 3 ∙ ap (λ (b : Bool). cond b Nowhere (At 3)) (listed (get_or s 3 0) (get_or s 5 0))
+  eight s = needed (row_in l.line s).found 3 ∙ ap (λ (b : Bool). cond b None (Some 3)) (listed (get_or s 3 0) (get_or s 5 0))
 
 pub eight-listed : EightListed
 eight-listed = all_map Exact EightOn eight paper exact-lines

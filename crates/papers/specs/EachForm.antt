@@ -1,5 +1,5 @@
 -- An accepted telegram of each form on each of its lines, made by hand from rules B1 to B5, L6 to L19 and V1 to V17. Assumes nothing.
-use Rattle.std.specs.Prelude.{◌≡◌, Bool, true, not, List, [], ◌∷◌, map, ℕ, ◌+◌, ◌*◌, eqb, get_or}
+use Rattle.std.specs.Prelude.{◌≡◌, Option, Bool, true, not, List, [], ◌∷◌, map, ℕ, ◌+◌, ◌*◌, eqb, get_or}
 use Prim.Native.Char.{Char, code}
 use Prim.Native.String.{String}
 use Rattle.laws.specs.Truth.{both, every, implies}
@@ -7,7 +7,7 @@ use Rattle.records.specs.declared.records.Radio.{Radio}
 use Rattle.records.specs.declared.records.Record.{Record}
 use Rattle.records.specs.declared.records.Record.TheVariants.{Approved, Rejected, Request, Idling, Test, Stop, RadioFault, Fault, Position, Train, TrainData, RadioData, RadioUpdate, Transponder}
 use Rattle.forms.specs.Lines.{line_numbers}
-use Rattle.forms.specs.Forms.{forms, on_line}
+use Rattle.forms.specs.Forms.{forms, on_line, looked_of}
 use Rattle.forms.specs.declared.rows.Form.{Form}
 use Rattle.records.specs.Answers.{Answer, accepted}
 use Rattle.reading.specs.Reading.{reading_of}
@@ -67,3 +67,7 @@ is_of line f t = both (eqb t.line line) (eqb (get_or t.bytes 3 0) f.kind)
 abbrev pub EachSampled : Type 0
 EachSampled =
     every (λ (line : ℕ). every (λ (f : Form). implies (on_line f line) (not (every (λ (t : Sample). not (is_of line f t)) samples))) forms) line_numbers ≡ true
+
+-- a promise through `looked_of` allows one row only
+abbrev pub OneLooked : Type 0
+OneLooked = (a b : Option Form) → looked_of a ≡ looked_of b → a ≡ b

@@ -1,13 +1,11 @@
 -- A refusal of reading is the first check that finds a fault, and each of 1 to 11 occurs (rules W2, R1 to R11). Assumes nothing.
-use Rattle.std.specs.Prelude.{◌≡◌, true, false, cond, List, [], ◌∷◌, ◌++◌, map, ℕ, ◌-◌, ◌≤◌, ◌<◌, length, get_or, replicate}
+use Rattle.std.specs.Prelude.{◌≡◌, true, false, cond, List, [], ◌∷◌, ◌++◌, map, ℕ, ◌-◌, ◌≤◌, ◌<◌, length, get_or, replicate, Option, None, Some}
 use Prim.Native.Char.{code}
 use Rattle.records.specs.Refusals.{no}
 use Rattle.laws.specs.Truth.{either, one_of, every, All}
 use Rattle.laws.specs.Text.{codes}
 use Rattle.forms.specs.Lines.{is_line}
 use Rattle.records.specs.declared.records.Record.{Record}
-use Rattle.records.specs.declared.answers.Spot.{Spot}
-use Rattle.records.specs.declared.answers.Spot.TheVariants.{Nowhere, At}
 use Rattle.records.specs.Answers.{accepted, refused}
 use Rattle.characters.specs.Marks.{lf, cr}
 use Rattle.reading.specs.Reading.{checks, reading_of}
@@ -74,15 +72,15 @@ abbrev pub Eleven : Type 0
 Eleven = (line : ℕ) (s : List ℕ) → length (checks line s) ≡ 11
 
 -- the check of a number, counted from 1
-abbrev pub check_at : ℕ → List ℕ → ℕ → Spot
-check_at line s k = get_or (checks line s) (k - 1) Nowhere
+abbrev pub check_at : ℕ → List ℕ → ℕ → Option ℕ
+check_at line s k = get_or (checks line s) (k - 1) None
 
 -- check k, of the eleven, finds a fault at a place, and no check before it finds one
 pub record FirstCheck (line : ℕ) (s : List ℕ) (k place : ℕ) : Type 0 where
   pub from_one : 1 ≤ k
   pub to-eleven : k ≤ 11
-  pub finds : check_at line s k ≡ At place
-  pub none_before : (i : ℕ) → 1 ≤ i → i < k → check_at line s i ≡ Nowhere
+  pub finds : check_at line s k ≡ Some place
+  pub none_before : (i : ℕ) → 1 ≤ i → i < k → check_at line s i ≡ None
 
 -- a refusal on a line is the first check that finds a fault, with its place
 abbrev pub RefusedFirst : Type 0
@@ -90,14 +88,14 @@ RefusedFirst = (line : ℕ) (s : List ℕ) (k place : ℕ) → is_line line ≡ 
 
 -- check 8 finds a fault, at the type, just where the paper lists the type for neither end of the line
 abbrev pub EightOn : Senders → Type 0
-EightOn l = (s : List ℕ) → check_at l.line s 8 ≡ cond (either (one_of l.masters (get_or s 3 0)) (one_of l.slaves (get_or s 3 0))) Nowhere (At 3)
+EightOn l = (s : List ℕ) → check_at l.line s 8 ≡ cond (either (one_of l.masters (get_or s 3 0)) (one_of l.slaves (get_or s 3 0))) None (Some 3)
 
 abbrev pub EightListed : Type 0
 EightListed = All EightOn paper
 
 -- what is accepted passes every check
 abbrev pub AcceptedClean : Type 0
-AcceptedClean = (line : ℕ) (s : List ℕ) (rec : Record) (n : ℕ) → reading_of line s ≡ accepted rec n → (k : ℕ) → check_at line s k ≡ Nowhere
+AcceptedClean = (line : ℕ) (s : List ℕ) (rec : Record) (n : ℕ) → reading_of line s ≡ accepted rec n → (k : ℕ) → check_at line s k ≡ None
 
 -- 15 comes before all where there is no such line, whatever the bytes are
 abbrev pub NoLine : Type 0

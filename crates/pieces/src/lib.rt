@@ -3,4 +3,5 @@
 
 pub mod line;
 pub mod tails;
+pub mod turns;
 pub mod wants;

@@ -10,8 +10,8 @@ use Rattle.laws.specs.Truth.{one_of}
 use Rattle.laws.specs.Text.{codes}
 use Rattle.laws.specs.Numerals.{numeral_on}
 use Rattle.characters.specs.Checksum.{hex_of, check_text, checksum_of}
-use Rattle.records.specs.Answers.{good, fails, first_fault}
-use Rattle.reading.specs.Frame.{is_two, count_text, frame_checks, summed_of}
+use Rattle.records.specs.Answers.{fails, first_fault}
+use Rattle.reading.specs.Frame.{needs, is_two, count_text, frame_checks, summed_of}
 
 -- the two characters of the byte count
 pub count-two : (n high low : ℕ) → high ≡ 48 + (n - 2) / 10 % 10 → low ≡ 48 + (n - 2) % 10 → high ∷ low ∷ [] ≡ count_text n
@@ -24,11 +24,6 @@ unfolding check_text
 sum-two sum high low e f = rw (e, f)
 
 module _ (s : List ℕ) where
-  -- the test of the checksum's two characters, as the code comes to it
-  pub sum-test : (part : List ℕ) (sum high low : ℕ) (two : Bool) → part ≡ summed_of s → sum ≡ checksum_of part → high ≡ hex_of (sum / 16) → low ≡ hex_of sum
-      → two ≡ is_two s (length s - 3) (high ∷ low ∷ []) → is_two s (length s - 3) (check_text (checksum_of (summed_of s))) ≡ two
-  sum-test part sum high low two p e h l t = sym (t ∙ ap (is_two s (length s - 3)) (sum-two sum high low h l ∙ ap check_text (e ∙ ap checksum_of p)))
-
   pub short : length s < 10 → fails (no 1 0) ≡ first_fault 1 (frame_checks s)
   unfolding frame_checks
   short h = rw (lt-leb _ _ h)
@@ -53,16 +48,17 @@ module _ (s : List ℕ) where
   unfolding frame_checks
   no_end h = rw (ne_eqb _ _ h)
 
-  pub bad_sum : get_or s (length s - 1) 0 ≡ 13 → is_two s (length s - 3) (check_text (checksum_of (summed_of s))) ≡ false → fails (no 6 (length s - 3)) ≡ first_fault 5 (drop 4 (frame_checks s))
-  unfolding frame_checks
-  bad_sum a h = rw (eq-eqb _ _ a, h)
+  -- the last byte is CR; the checksum's two characters, as the code comes to them, stand before it or not
+  module _ {last : ℕ} (a : last ≡ get_or s (length s - 1) 0) (r : last ≡ 13) {part : List ℕ} {sum high low : ℕ} {two : Bool} (p : part ≡ summed_of s)
+      (e : sum ≡ checksum_of part) (h : high ≡ hex_of (sum / 16)) (l : low ≡ hex_of sum) (t : two ≡ is_two s (length s - 3) (high ∷ low ∷ [])) where
+    sum-test : is_two s (length s - 3) (check_text (checksum_of (summed_of s))) ≡ two
+    sum-test = sym (t ∙ ap (is_two s (length s - 3)) (sum-two sum high low h l ∙ ap check_text (e ∙ ap checksum_of p)))
 
-  pub good-number : get_or s (length s - 1) 0 ≡ 13 → is_two s (length s - 3) (check_text (checksum_of (summed_of s))) ≡ true → one_of (codes "01") (get_or s 4 0) ≡ true
-      → good ≡ first_fault 5 (drop 4 (frame_checks s))
-  unfolding frame_checks
-  good-number a b h = rw (eq-eqb _ _ a, b, h)
+    pub bad_sum : two ≡ false → fails (no 6 (length s - 3)) ≡ first_fault 5 (drop 4 (frame_checks s))
+    unfolding frame_checks
+    bad_sum b = rw (eq-eqb _ _ (sym a ∙ r), sum-test, b)
 
-  pub bad-number : get_or s (length s - 1) 0 ≡ 13 → is_two s (length s - 3) (check_text (checksum_of (summed_of s))) ≡ true → one_of (codes "01") (get_or s 4 0) ≡ false
-      → fails (no 7 4) ≡ first_fault 5 (drop 4 (frame_checks s))
-  unfolding frame_checks
-  bad-number a b h = rw (eq-eqb _ _ a, b, h)
+    -- the number's check is the last
+    pub to_number : two ≡ true → (test : Bool) → one_of (codes "01") (get_or s 4 0) ≡ test → first_fault 7 (needs test 4 ∷ []) ≡ first_fault 5 (drop 4 (frame_checks s))
+    unfolding frame_checks
+    to_number b test n = rw (eq-eqb _ _ (sym a ∙ r), sum-test, b, n)

@@ -1,13 +1,11 @@
 -- A telegram's frame, and checks 1 to 7 (rules B1 to B5, R1 to R7). Assumes nothing.
-use Rattle.std.specs.Prelude.{ℕ, ◌+◌, ◌-◌, Bool, true, false, List, [], ◌∷◌, ◌++◌, leb, eqb, length, get_or, take, drop}
+use Rattle.std.specs.Prelude.{ℕ, ◌+◌, ◌-◌, Bool, true, false, List, [], ◌∷◌, ◌++◌, leb, eqb, length, get_or, take, drop, Option, None, Some}
 use Prim.Native.Char.{code}
 use Rattle.laws.specs.Truth.{both, one_of}
 use Rattle.laws.specs.Text.{codes}
 use Rattle.laws.specs.Numerals.{numeral}
 use Rattle.characters.specs.Checksum.{checksum_of, check_text}
 pub use Rattle.characters.specs.Marks.{lf, cr}
-use Rattle.records.specs.declared.answers.Spot.{Spot}
-use Rattle.records.specs.declared.answers.Spot.TheVariants.{Nowhere, At}
 
 -- the byte count of a telegram of n bytes: its length less 2, as two decimal digits
 unfoldable pub count_text : ℕ → List ℕ
@@ -41,12 +39,12 @@ abbrev pub is_two : List ℕ → ℕ → List ℕ → Bool
 is_two s at text = both (eqb (get_or s at 0) (get_or text 0 0)) (eqb (get_or s (at + 1) 0) (get_or text 1 0))
 
 -- a check that finds its fault at a place, where its test fails
-abbrev pub needs : Bool → ℕ → Spot
-needs true place = Nowhere
-needs false place = At place
+abbrev pub needs : Bool → ℕ → Option ℕ
+needs true place = None
+needs false place = Some place
 
 -- checks 1 to 7, in order
-unfoldable pub frame_checks : List ℕ → List Spot
+unfoldable pub frame_checks : List ℕ → List (Option ℕ)
 frame_checks s =
     -- 1: under 10 bytes
     needs (leb 10 (length s)) 0 ∷

@@ -1,5 +1,5 @@
 -- What bytes on a line read as (rules W1, W2). Assumes nothing.
-use Rattle.std.specs.Prelude.{ℕ, ◌-◌, cond, List, [], ◌∷◌, ◌++◌, get_or}
+use Rattle.std.specs.Prelude.{ℕ, ◌-◌, cond, List, [], ◌∷◌, ◌++◌, get_or, Option}
 use Prim.Native.Char.{code}
 use Rattle.records.specs.Refusals.{no}
 use Rattle.forms.specs.Lines.{is_line}
@@ -7,7 +7,6 @@ use Rattle.forms.specs.Forms.{slots_of}
 use Rattle.records.specs.Records.{record_of}
 use Rattle.records.specs.declared.records.Record.{Record}
 use Rattle.forms.specs.declared.rows.Form.{Form}
-use Rattle.records.specs.declared.answers.Spot.{Spot}
 use Rattle.records.specs.Answers.{first_fault, Answer, accepted, refused, unless}
 use Rattle.reading.specs.Frame.{field_of, frame_checks}
 use Rattle.reading.specs.Contents.{row_in, values_in, misshapen, bad_value, field_checks}
@@ -26,7 +25,7 @@ unfoldable pub contents_of : ℕ → List ℕ → Answer
 contents_of line s = unless (first_fault 8 (field_checks line s)) (accepted (record_in line s) (get_or s 4 0 - code "0"))
 
 -- reading checks 1 to 11 in order
-unfoldable pub checks : ℕ → List ℕ → List Spot
+unfoldable pub checks : ℕ → List ℕ → List (Option ℕ)
 checks line s = frame_checks s ++ field_checks line s
 
 -- 15 comes before all; a reading is a record with its number or the first refusal with its place

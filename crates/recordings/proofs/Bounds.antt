@@ -1,4 +1,5 @@
 -- No row is longer than its room (rule Q12). Assumes nothing.
+use Rattle.std.specs.Prelude.{Option, None, Some}
 use Rattle.std.proofs.Common.{◌≡◌, ℕ, ◌*◌, ◌≤◌, Bool, true, false, cond, eqb, leb, List, [], ◌∷◌, length, get_or, take, replicate, refl, arith, length-append, length-take}
 use Prim.Native.Char.{code}
 use Rattle.laws.specs.Text.{codes}
@@ -30,8 +31,6 @@ use Rattle.desk.specs.State.{in_ranges}
 use Rattle.desk.specs.Panel.{loses_line, noted_of, tick_of}
 use Rattle.desk.specs.Queue.{reply_to}
 use Rattle.desk.specs.Hearing.{faulted_of, repeated_of, handled_of, applied_of, ruling, heard_of, hear_of}
-use Rattle.desk.specs.declared.replying.Wanted.{Wanted}
-use Rattle.desk.specs.declared.replying.Wanted.TheVariants.{None, Is}
 use Rattle.desk.specs.declared.state.Desk.{Desk}
 use Rattle.desk.proofs.Ranges.{ranges-parts, kept-most}
 use Rattle.logs.specs.declared.marks.Mark.TheVariants.{Master, Slave, Hit}
@@ -157,9 +156,9 @@ module _ (e : Desk) where
   reply-small w.not_master s = tt
   reply-small w.request s = asked e.requested
     where
-      asked : (v : Wanted) → SmallOrigin (asked_of v).1
+      asked : (v : Option Record) → SmallOrigin (asked_of v).1
       asked None = tt
-      asked (Is rec) = tt
+      asked (Some rec) = tt
   reply-small w.poll s = on_test (eqb e.queued 0) (λ q. rw q tt) (λ q. rw q tt)
   reply-small (w.other rec) s = s
 

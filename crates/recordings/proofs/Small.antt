@@ -1,4 +1,5 @@
 -- What bytes read as has numbers of 64 bits only, in a record at most ten, and telegrams have at most 66 bytes. Assumes nothing.
+use Rattle.std.specs.Prelude.{Option, None, Some}
 use Rattle.std.proofs.Common.{◌≡◌, ℕ, zero, suc, ◌+◌, ◌-◌, ◌^◌, ◌<◌, ◌≤◌, Bool, true, false, cond, eqb, leb, List, [], ◌∷◌, length, get_or, take, drop, refl, add-zero, arith, lit<, length-drop, length-take, leb-true}
 use Prim.Native.Char.{code}
 use native.Mathlib.Nat.{pow-le-pow_right}
@@ -15,11 +16,9 @@ use Rattle.records.specs.Answers.{Answer, accepted, refused, unless, Fault, good
 use Rattle.records.specs.Records.{type_of, letter_of, fields_of, values_of, record_of}
 use Rattle.records.specs.Refusals.{No, no}
 use Rattle.records.specs.declared.records.Record.{Record}
-use Rattle.records.specs.declared.answers.Spot.{Spot}
-use Rattle.records.specs.declared.answers.Spot.TheVariants.{Nowhere, At}
 use Rattle.values.specs.Values.{narrow, value_of, permitted, row_of}
 use Rattle.values.specs.Packets.{lead_of, is_decimal}
-use Rattle.values.proofs.Digits.{no_digit, digit-more}
+use Rattle.values.proofs.Digits.{no_digit, digit_more}
 use Rattle.values.proofs.Texts.{narrow-says}
 use Rattle.characters.specs.Checksum.{checksum_of, check_text}
 use Rattle.reading.specs.Frame.{lf, cr, count_text, summed_of, is_two, needs, field_of, frame_checks}
@@ -51,7 +50,7 @@ unfolding number_on
 said-below decimal [] i a h = rw (add-zero i) h
 said-below decimal (b ∷ s) i a h =
     let e : i + 1 + length s ≡ i + suc (length s) = omega arith in
-    rw e at (said-below decimal s (i + 1) _ (digit-more decimal i a b h))
+    rw e at (said-below decimal s (i + 1) _ (digit_more decimal i a b h))
 
 -- so few of them say a small one
 few-small : (decimal : Bool) (s : List ℕ) → length s ≤ 6 → (decimal ≡ false → length s ≤ 3) → Small (number_on decimal 0 s)
@@ -120,9 +119,9 @@ record-short kind vs a =
     by b {x} {y} = chosen Short b x y
 
 -- where a check finds its fault
-abbrev Near : Spot → Type 0
-Near Nowhere = Unit {0}
-Near (At place) = Small place
+abbrev Near : Option ℕ → Type 0
+Near None = Unit {0}
+Near (Some place) = Small place
 
 needs-near : (b : Bool) (place : ℕ) → Small place → Near (needs b place)
 needs-near true place h = tt
@@ -131,19 +130,19 @@ needs-near false place h = h
 outside-near : (at : ℕ) (d : List ℕ) → Small (at + length d) → Near (outside at d)
 unfolding outside
 outside-near at [] h = tt
-outside-near at (b ∷ d) h = chosen Near (in_set b) (outside (at + 1) d) (At at) (outside-near (at + 1) d (omega arith)) (omega arith)
+outside-near at (b ∷ d) h = chosen Near (in_set b) (outside (at + 1) d) (Some at) (outside-near (at + 1) d (omega arith)) (omega arith)
 
 letter-near : (at : ℕ) (ps : List Slot) (d : List ℕ) → Small (at + width_in ps) → Near (wrong_letter at ps d)
 unfolding wrong_letter width_in
 letter-near at [] d h = tt
 letter-near at (p ∷ ps) d h =
-    chosen Near (eqb (get_or d 0 0) p.letter) (wrong_letter (behind p at) ps (data_behind p d)) (At at) (letter-near (behind p at) ps (data_behind p d) (omega arith)) (omega arith)
+    chosen Near (eqb (get_or d 0 0) p.letter) (wrong_letter (behind p at) ps (data_behind p d)) (Some at) (letter-near (behind p at) ps (data_behind p d) (omega arith)) (omega arith)
 
 value-near : (line kind at : ℕ) (ps : List Slot) (d : List ℕ) → Small (at + width_in ps) → Near (bad_value line kind at ps d)
 unfolding bad_value width_in
 value-near line kind at [] d h = tt
 value-near line kind at (p ∷ ps) d h =
-    chosen Near (permitted line kind p.letter (packet_value p d)) (bad_value line kind (behind p at) ps (data_behind p d)) (At at)
+    chosen Near (permitted line kind p.letter (packet_value p d)) (bad_value line kind (behind p at) ps (data_behind p d)) (Some at)
     (value-near line kind (behind p at) ps (data_behind p d) (omega arith)) (omega arith)
 
 -- what each form and what stands for none have, what a search gives has
@@ -180,10 +179,10 @@ abbrev SmallFault : Fault → Type 0
 SmallFault good = Unit {0}
 SmallFault (fails x) = SmallNo x
 
-first_small : (k : ℕ) (spots : List Spot) → k + length spots ≤ 100 → All Near spots → SmallFault (first_fault k spots)
+first_small : (k : ℕ) (spots : List (Option ℕ)) → k + length spots ≤ 100 → All Near spots → SmallFault (first_fault k spots)
 first_small k [] h a = tt
-first_small k (Nowhere ∷ spots) h a = first_small (k + 1) spots (omega arith) a.1
-first_small k (At place ∷ spots) h a = record { number = omega arith; place = a.0 }
+first_small k (None ∷ spots) h a = first_small (k + 1) spots (omega arith) a.1
+first_small k (Some place ∷ spots) h a = record { number = omega arith; place = a.0 }
 
 -- what bytes read as
 abbrev pub SmallAnswer : Answer → Type 0

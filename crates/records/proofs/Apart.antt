@@ -5,10 +5,9 @@ use lib.Dec.{eqb}
 use Rattle.records.specs.Refusals.{No, refusal_of, OneRefusal}
 use Rattle.records.specs.declared.refusals.Refusal.{Refusal}
 use Rattle.records.specs.declared.refusals.Refusal.TheVariants.{Short, Long, NoStart, Count, NoEnd, Checksum, Number, Kind, Character, Form, Value, NotSent, Range, NoRoom, State, Busy, Full, Mark, Length, CutOff}
-use Rattle.records.specs.declared.answers.Check as c
-use Rattle.records.specs.declared.answers.Reading as r
-use Rattle.records.specs.declared.answers.Writing as w
-use Rattle.records.specs.Answers.{OneCheck, OneReading, OneWriting}
+use Rattle.std.specs.Prelude.{Result, Ok, Err}
+use Rattle.records.specs.declared.answers.Numbered.{Numbered}
+use Rattle.records.specs.Answers.{Answer, accepted, refused, answer_of, OneCheck, OneReading, OneWriting}
 
 -- the refusal of a number and place
 abbrev pub back_of : No → Refusal
@@ -62,19 +61,25 @@ one-refusal x y h = sym (refusal-back x) ∙ (ap back_of h ∙ refusal-back y)
 
 -- a promise of a row of checks, of reading or of writing allows one answer only
 pub one-check : OneCheck
-one-check c.TheVariants.Good c.TheVariants.Good h = refl
-one-check c.TheVariants.Good (c.TheVariants.Fails y) h = cc
-one-check (c.TheVariants.Fails x) c.TheVariants.Good h = cc
-one-check (c.TheVariants.Fails x) (c.TheVariants.Fails y) h = let e : x ≡ y = one-refusal x y (cc) in cc
+one-check (Ok x) (Ok y) h = refl
+one-check (Ok x) (Err y) h = cc
+one-check (Err x) (Ok y) h = cc
+one-check (Err x) (Err y) h = let e : x ≡ y = one-refusal x y (cc) in cc
+
+-- each reading comes back from its answer
+abbrev reading_back : Answer → Result Numbered Refusal
+reading_back (accepted rec n) = Ok (record { rec = rec; number = n })
+reading_back (refused x) = Err (back_of x)
+
+reading-back : (a : Result Numbered Refusal) → reading_back (answer_of a) ≡ a
+reading-back (Ok t) = refl
+reading-back (Err x) = ap Err (refusal-back x)
 
 pub one-reading : OneReading
-one-reading (r.TheVariants.Accepted x m) (r.TheVariants.Accepted y n) h = cc
-one-reading (r.TheVariants.Accepted x m) (r.TheVariants.Refused y) h = cc
-one-reading (r.TheVariants.Refused x) (r.TheVariants.Accepted y n) h = cc
-one-reading (r.TheVariants.Refused x) (r.TheVariants.Refused y) h = let e : x ≡ y = one-refusal x y (cc) in cc
+one-reading a b h = sym (reading-back a) ∙ (ap reading_back h ∙ reading-back b)
 
 pub one-writing : OneWriting
-one-writing (w.TheVariants.Written m) (w.TheVariants.Written n) h = cc
-one-writing (w.TheVariants.Written m) (w.TheVariants.Refused y) h = cc
-one-writing (w.TheVariants.Refused x) (w.TheVariants.Written n) h = cc
-one-writing (w.TheVariants.Refused x) (w.TheVariants.Refused y) h = let e : x ≡ y = one-refusal x y (cc) in cc
+one-writing (Ok m) (Ok n) h = cc
+one-writing (Ok m) (Err y) h = cc
+one-writing (Err x) (Ok n) h = cc
+one-writing (Err x) (Err y) h = let e : x ≡ y = one-refusal x y (cc) in cc

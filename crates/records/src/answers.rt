@@ -1,31 +1,13 @@
-// What a row of checks, a reading and a writing answer.
+// What a reading answers (rules W1, W2).
 use crate::records::Record;
 use crate::refusals::Refusal;
 
-// A row of checks finds nothing, or a refusal.
+// A record with its number.
 #[derive(Clone, Copy)]
-pub enum Check {
-    Good,
-    Fails(Refusal),
-}
-
-// Where a check finds its fault.
-#[derive(Clone, Copy)]
-pub enum Spot {
-    Nowhere,
-    At(usize),
+pub struct Numbered {
+    pub rec: Record,
+    pub number: u8,
 }
 
 // A reading is a record with its number, or a refusal with its place.
-#[derive(Clone, Copy)]
-pub enum Reading {
-    Accepted(Record, u8),
-    Refused(Refusal),
-}
-
-// A writing is the telegram's length, or a refusal.
-#[derive(Clone, Copy)]
-pub enum Writing {
-    Written(usize),
-    Refused(Refusal),
-}
+pub type Reading = Result<Numbered, Refusal>;

@@ -59,6 +59,7 @@ pub enum Record {
 }
 
 // The type letter of a record's telegram.
+// Letters are u8, as a telegram has them. type_of to values_of are a match and no From each: docs/PROMISES.md names each with its definition.
 pub fn type_of(rec: Record) -> u8
     ensures { result ≡ type_of rec }
 {
@@ -73,21 +74,10 @@ pub fn type_of(rec: Record) -> u8
         Record::Fault(_) => b'G',
         Record::Position(_) => b'F',
         Record::Train(_) => b'n',
-        Record::TrainData {
-            length: _,
-            braking: _,
-            speed: _,
-            direction: _,
-        } => b'B',
+        Record::TrainData { .. } => b'B',
         Record::RadioData(_) => b'K',
         Record::RadioUpdate(_, _) => b'O',
-        Record::Transponder {
-            radio: _,
-            ceffect: _,
-            deffect: _,
-            sign: _,
-            country: _,
-        } => b'1',
+        Record::Transponder { .. } => b'1',
     }
 }
 
@@ -98,29 +88,15 @@ pub fn letter_of(rec: Record) -> u8
     match rec {
         Record::Approved(_) => b'A',
         Record::Rejected(_) => b'N',
-        Record::Request(_) => b'B',
-        Record::Idling(_) => b'B',
+        Record::Request(_) | Record::Idling(_) => b'B',
         Record::Test(_) => b'm',
         Record::Stop(_) => b'U',
         Record::RadioFault(_) => b'S',
         Record::Fault(_) => b'E',
         Record::Position(_) => b'P',
         Record::Train(_) => b'T',
-        Record::TrainData {
-            length: _,
-            braking: _,
-            speed: _,
-            direction: _,
-        } => b'L',
-        Record::RadioData(_) => b'F',
-        Record::RadioUpdate(_, _) => b'F',
-        Record::Transponder {
-            radio: _,
-            ceffect: _,
-            deffect: _,
-            sign: _,
-            country: _,
-        } => b'F',
+        Record::TrainData { .. } => b'L',
+        Record::RadioData(_) | Record::RadioUpdate(_, _) | Record::Transponder { .. } => b'F',
     }
 }
 
@@ -129,31 +105,11 @@ pub fn count_of(rec: Record) -> usize
     ensures { result ≡ length (fields_of rec) }
 {
     match rec {
-        Record::Approved(_) => 1,
-        Record::Rejected(_) => 1,
-        Record::Request(_) => 1,
-        Record::Idling(_) => 1,
-        Record::Test(_) => 1,
-        Record::Stop(_) => 1,
-        Record::RadioFault(_) => 1,
-        Record::Fault(_) => 1,
-        Record::Position(_) => 1,
-        Record::Train(_) => 1,
-        Record::TrainData {
-            length: _,
-            braking: _,
-            speed: _,
-            direction: _,
-        } => 4,
+        Record::TrainData { .. } => 4,
         Record::RadioData(_) => 6,
         Record::RadioUpdate(_, _) => 7,
-        Record::Transponder {
-            radio: _,
-            ceffect: _,
-            deffect: _,
-            sign: _,
-            country: _,
-        } => 10,
+        Record::Transponder { .. } => 10,
+        _ => 1,
     }
 }
 
@@ -162,16 +118,16 @@ pub fn values_of(rec: Record) -> [u32; 10]
     ensures { result ≡ values_of rec }
 {
     match rec {
-        Record::Approved(a) => [a, 0, 0, 0, 0, 0, 0, 0, 0, 0],
-        Record::Rejected(n) => [n, 0, 0, 0, 0, 0, 0, 0, 0, 0],
-        Record::Request(b) => [b, 0, 0, 0, 0, 0, 0, 0, 0, 0],
-        Record::Idling(b) => [b, 0, 0, 0, 0, 0, 0, 0, 0, 0],
-        Record::Test(m) => [m, 0, 0, 0, 0, 0, 0, 0, 0, 0],
-        Record::Stop(u) => [u, 0, 0, 0, 0, 0, 0, 0, 0, 0],
-        Record::RadioFault(s) => [s, 0, 0, 0, 0, 0, 0, 0, 0, 0],
-        Record::Fault(e) => [e, 0, 0, 0, 0, 0, 0, 0, 0, 0],
-        Record::Position(p) => [p, 0, 0, 0, 0, 0, 0, 0, 0, 0],
-        Record::Train(t) => [t, 0, 0, 0, 0, 0, 0, 0, 0, 0],
+        Record::Approved(n)
+        | Record::Rejected(n)
+        | Record::Request(n)
+        | Record::Idling(n)
+        | Record::Test(n)
+        | Record::Stop(n)
+        | Record::RadioFault(n)
+        | Record::Fault(n)
+        | Record::Position(n)
+        | Record::Train(n) => [n, 0, 0, 0, 0, 0, 0, 0, 0, 0],
         Record::TrainData {
             length,
             braking,
@@ -202,6 +158,7 @@ pub fn values_of(rec: Record) -> [u32; 10]
 }
 
 // The six values that K, O and 1 begin with.
+// No From: only the first six of the ten values are its own.
 fn radio_of(v: [u32; 10]) -> Radio
     ensures { result ≡ Rattle.records.specs.Records.radio_of v }
 {
@@ -216,6 +173,7 @@ fn radio_of(v: [u32; 10]) -> Radio
 }
 
 // The record of a type letter and its values; a letter that no form has gives the record of A.
+// So it is no TryFrom: any byte may ask, as a telegram has it.
 #[tactic(auto, unfolding(crate::specs::Records::record_of))]
 pub fn record_of(kind: u8, v: [u32; 10]) -> Record
     ensures { result ≡ record_of kind v }

@@ -27,6 +27,7 @@ pub enum Refusal {
 }
 
 // The paper's number of a refusal.
+// It and place_of are no From, which would not say which of a refusal's two numbers it gives.
 pub fn number_of(refusal: Refusal) -> u8
     ensures { result ≡ (refusal_of refusal).number }
 {
@@ -59,25 +60,17 @@ pub fn place_of(refusal: Refusal) -> usize
     ensures { result ≡ (refusal_of refusal).place }
 {
     match refusal {
-        Refusal::Short => 0,
-        Refusal::Long => 0,
-        Refusal::NoStart => 0,
         Refusal::Count => 1,
-        Refusal::NoEnd(place) => place,
-        Refusal::Checksum(place) => place,
-        Refusal::Number => 4,
         Refusal::Kind => 3,
-        Refusal::Character(place) => place,
-        Refusal::Form(place) => place,
-        Refusal::Value(place) => place,
-        Refusal::NotSent => 0,
-        Refusal::Range => 0,
-        Refusal::NoRoom => 0,
-        Refusal::State => 0,
-        Refusal::Busy => 0,
-        Refusal::Full => 0,
-        Refusal::Mark(place) => place,
-        Refusal::Length(place) => place,
-        Refusal::CutOff(place) => place,
+        Refusal::Number => 4,
+        Refusal::NoEnd(place)
+        | Refusal::Checksum(place)
+        | Refusal::Character(place)
+        | Refusal::Form(place)
+        | Refusal::Value(place)
+        | Refusal::Mark(place)
+        | Refusal::Length(place)
+        | Refusal::CutOff(place) => place,
+        _ => 0,
     }
 }

@@ -1,6 +1,8 @@
 // One desk and one master, and what a row does to them.
+// rt stands apart, as stdio says.
 use desk::state::Desk;
 use master::state::Master;
+use scripts::ends::Printed;
 use scripts::kinds::{Kind, kind_of};
 use scripts::printing::{put_comment, put_elapsed, put_unknown};
 use stdio::output::write_out;
@@ -13,37 +15,33 @@ pub(crate) struct Ends {
 
 // Before any start both ends are the blank states of line 0.
 pub(crate) fn blank() -> Ends {
-    let started = Desk::start(0);
-    let opened = Master::start(0, 0);
-    let desk = started.desk;
-    let master = opened.master;
-    Ends { desk, master }
+    Ends {
+        desk: Desk::start(0).desk,
+        master: Master::start(0, 0).master,
+    }
 }
 
-// Writes what a row prints; whether it is written.
-fn write(rt: HostRuntime, out: &[u8], n: usize) -> bool {
-    write_out(rt, out, n, b"scenes: writing")
+// A function for each end: one for both would take the end out of the two, and put it back, by closures.
+fn desk_row(ends: Ends, row: &[u8], out: &mut [u8]) -> Printed<Ends> {
+    let printed = scripts::desks::behind::on_row(ends.desk, row, out);
+    Printed {
+        state: Ends {
+            desk: printed.state,
+            ..ends
+        },
+        length: printed.length,
+    }
 }
 
-// Both ends where a row is written, else None.
-fn behind(ends: Ends, written: bool) -> Option<Ends> {
-    if written { Some(ends) } else { None }
-}
-
-fn desk_row(rt: HostRuntime, ends: Ends, row: &[u8], out: &mut [u8]) -> Option<Ends> {
-    let before = ends.desk;
-    let master = ends.master;
-    let printed = scripts::desks::behind::on_row(before, row, out);
-    let desk = printed.desk;
-    behind(Ends { desk, master }, write(rt, out, printed.length))
-}
-
-fn master_row(rt: HostRuntime, ends: Ends, row: &[u8], out: &mut [u8]) -> Option<Ends> {
-    let desk = ends.desk;
-    let before = ends.master;
-    let printed = scripts::masters::behind::on_row(before, row, out);
-    let master = printed.master;
-    behind(Ends { desk, master }, write(rt, out, printed.length))
+fn master_row(ends: Ends, row: &[u8], out: &mut [u8]) -> Printed<Ends> {
+    let printed = scripts::masters::behind::on_row(ends.master, row, out);
+    Printed {
+        state: Ends {
+            master: printed.state,
+            ..ends
+        },
+        length: printed.length,
+    }
 }
 
 // A row of neither end: elapsed time, a comment, or a row that names no call.
@@ -55,14 +53,21 @@ fn other_row(kind: Kind, row: &[u8], out: &mut [u8]) -> usize {
     }
 }
 
+// The kind is data of the script, so this is a match.
+fn behind(ends: Ends, row: &[u8], out: &mut [u8]) -> Printed<Ends> {
+    match kind_of(row) {
+        Kind::Desk => desk_row(ends, row, out),
+        Kind::Master => master_row(ends, row, out),
+        kind => Printed {
+            state: ends,
+            length: other_row(kind, row, out),
+        },
+    }
+}
+
 // Both ends behind a row, whose text is written; None where it cannot be.
 pub(crate) fn on_row(rt: HostRuntime, ends: Ends, row: &[u8], out: &mut [u8]) -> Option<Ends> {
-    let kind = kind_of(row);
-    match kind {
-        Kind::Desk => return desk_row(rt, ends, row, out),
-        Kind::Master => return master_row(rt, ends, row, out),
-        _ => {}
-    }
-    let n = other_row(kind, row, out);
-    behind(ends, write(rt, out, n))
+    let printed = behind(ends, row, out);
+    write_out(rt, out, printed.length, b"scenes: writing")?;
+    Some(printed.state)
 }

@@ -1,104 +1,80 @@
 // A script, row by row.
+// rt stands apart, as stdio says.
 use crate::ends;
-use characters::slices::{byte_at, part};
-use std::num::wrapping_add_usize;
-use stdio::input::{Got, read_more};
+use characters::slices::part;
+use stdio::input::read_more;
 
-// Where a piece of the input is read, how many bytes it has, how many a row has so far, whether it is whole, and whether more may come.
+// Where a piece of the input is read, how many bytes it has, how many a row has so far, and whether more may come.
+// The buffers are lent by main and stand beside their counts: fixed memory, no heap.
 #[derive(Clone, Copy)]
 struct Input {
     at: usize,
     end: usize,
     filled: usize,
-    whole: bool,
     more: bool,
 }
 
-// A row ends at LF; what has no room in the row is dropped.
+// A piece more of the input; none where it is at its end, or where the read fails.
+// 0 serves for both: trouble is said by then, and the script ends where it comes.
+fn refilled(rt: HostRuntime, input: Input, buf: &mut [u8]) -> Input {
+    let end = read_more(rt, buf, 0, b"scenes: reading").unwrap_or(0);
+    Input {
+        at: 0,
+        end,
+        more: end != 0,
+        ..input
+    }
+}
+
+// With one byte more in the row; what has no room in it is dropped.
 fn taken(input: Input, row: &mut [u8], b: u8) -> Input {
     let n = input.filled;
-    let mut next = input;
-    next.at = wrapping_add_usize(input.at, 1);
-    if b == b'\n' {
-        next.whole = true;
-        return next;
+    if row.len() <= n {
+        return input;
     }
-    if n < row.len() {
-        row[n] = b;
-        next.filled = n + 1;
+    row[n] = b;
+    Input {
+        filled: n + 1,
+        ..input
     }
-    next
 }
 
-// A piece of so many bytes; a last row may lack its LF.
-fn refilled(input: Input, n: usize) -> Input {
-    let mut next = input;
-    next.at = 0;
-    next.end = n;
-    if n == 0 {
-        next.whole = 0 < input.filled;
-        next.more = false;
+// The input behind its next row, which ends at LF; the last may lack it. None where no row is left. A proved loop has to end, so it has a last turn, which no run
+// comes to.
+fn next_row(rt: HostRuntime, input: Input, buf: &mut [u8], row: &mut [u8]) -> Option<Input> {
+    let mut next = Input { filled: 0, ..input };
+    for _ in 0..u64::MAX {
+        if !next.more {
+            return (next.filled != 0).then_some(next);
+        }
+        match part(buf, next.at, next.end.saturating_sub(next.at)) {
+            [] => next = refilled(rt, next, buf),
+            [first, ..] => {
+                let b = *first;
+                next.at = next.at.wrapping_add(1);
+                if b == b'\n' {
+                    return Some(next);
+                }
+                next = taken(next, row, b);
+            }
+        }
     }
-    next
-}
-
-// Reads a piece; 0 where there is none left, or where the read fails.
-fn read_piece(rt: HostRuntime, buf: &mut [u8]) -> usize {
-    let Got::Bytes(got) = read_more(rt, buf, 0, b"scenes: reading") else {
-        return 0;
-    };
-    got
-}
-
-// A byte more of the row, or a piece more of the input.
-fn step(rt: HostRuntime, input: Input, buf: &mut [u8], row: &mut [u8]) -> Input {
-    let at = input.at;
-    if at < input.end {
-        return taken(input, row, byte_at(buf, at));
-    }
-    refilled(input, read_piece(rt, buf))
-}
-
-// Whether a row is being read.
-fn open(input: Input) -> bool {
-    if input.whole { false } else { input.more }
-}
-
-// The next row, whole where there is one. A proved loop has to end, so it counts its turns down, from a number that no run uses up.
-fn next_row(rt: HostRuntime, input: Input, buf: &mut [u8], row: &mut [u8]) -> Input {
-    let mut next = input;
-    next.filled = 0;
-    next.whole = false;
-    let mut turns = u64::MAX;
-    while turns > 0 && open(next) {
-        next = step(rt, next, buf, row);
-        turns = turns - 1;
-    }
-    next
-}
-
-fn first_row(rt: HostRuntime, buf: &mut [u8], row: &mut [u8]) -> Input {
-    let input = Input {
-        at: 0,
-        end: 0,
-        filled: 0,
-        whole: false,
-        more: true,
-    };
-    next_row(rt, input, buf, row)
+    None
 }
 
 // Row after row, as long as what each prints can be written.
-pub(crate) fn run(rt: HostRuntime, buf: &mut [u8], row: &mut [u8], out: &mut [u8]) {
+// It has a last turn as next_row has.
+pub(crate) fn run(rt: HostRuntime, buf: &mut [u8], row: &mut [u8], out: &mut [u8]) -> Option<()> {
     let mut both = ends::blank();
-    let mut turns = u64::MAX;
-    let mut input = first_row(rt, buf, row);
-    while turns > 0 && input.whole {
-        let Some(next) = ends::on_row(rt, both, part(row, 0, input.filled), out) else {
-            return;
-        };
-        both = next;
-        input = next_row(rt, input, buf, row);
-        turns = turns - 1;
+    let mut input = Input {
+        at: 0,
+        end: 0,
+        filled: 0,
+        more: true,
+    };
+    for _ in 0..u64::MAX {
+        input = next_row(rt, input, buf, row)?;
+        both = ends::on_row(rt, both, part(row, 0, input.filled), out)?;
     }
+    None
 }

@@ -1,35 +1,32 @@
--- The digits of a word, and the words of a row that are numbers, one after the other. Assumes nothing.
-use mathlib.Core.Path.{◌≡◌}
-use mathlib.Core.Bool.{true, false}
-use mathlib.Core.List.{List}
-use Prim.Native.Nat.{ℕ, suc, ◌+◌, ◌-◌, ◌≤◌, ◌<◌}
-use native.Mathlib.Omega.{arith}
-use native.Mathlib.Numerals.{add-one}
-use lib.ListN.{length, drop, get_or, drop_of_length-le}
-use lib.Seq.{drop-cons}
-use Rattle.laws.specs.Truth.{every}
+-- The digits of a word, and the words of a row that are numbers, in the library's words. Assumes nothing.
+use Rattle.std.proofs.Common.{◌≡◌, ℕ, zero, suc, ◌+◌, ◌-◌, Bool, true, false, ◌&&◌, List, [], ◌∷◌, refl, ap₂, ◌∙◌, add-one, arith}
+use Rattle.std.proofs.lemmas.Bool.Decides.{nat_tests}
+use Rattle.std.specs.Char.{is_ascii_digit}
+use Rattle.std.specs.List.{list_all, range_with_len}
+use Rattle.laws.specs.Truth.{both, every}
+use Rattle.laws.proofs.Passes.{on_test}
 use Rattle.text.specs.Fields.{word_of}
-use Rattle.scripts.specs.Numbers.{is_digit, is_number, numbers_from}
+use Rattle.scripts.specs.Numbers.{is_digit, is_number, numbers_from, are_numbers}
 
--- a digit at a place, another byte there, or no byte
-pub digit_at : (s : List ℕ) (i : ℕ) → i < length s → is_digit (get_or s i 0) ≡ true → every is_digit (drop (i + 1) s) ≡ every is_digit (drop i s)
-digit_at s i l t = rw (add-one i, drop-cons s i 0 l, t)
+digit_is : (b : ℕ) → is_digit b ≡ is_ascii_digit b
+digit_is b = grind (arith, nat_tests)
 
-pub no-digit-at : (s : List ℕ) (i : ℕ) → i < length s → is_digit (get_or s i 0) ≡ false → false ≡ every is_digit (drop i s)
-no-digit-at s i l t = rw (drop-cons s i 0 l, t)
+both_is : (p q : Bool) → both p q ≡ (p && q)
+both_is true q = refl
+both_is false q = refl
 
-pub all_digits : (s : List ℕ) (i : ℕ) → length s ≤ i → true ≡ every is_digit (drop i s)
-all_digits s i h = rw (drop_of_length-le s {i = i} h)
+digits_are : (s : List ℕ) → every is_digit s ≡ list_all is_ascii_digit s
+digits_are [] = refl
+digits_are (b ∷ s) = ap₂ both (digit_is b) (digits_are s) ∙ both_is (is_ascii_digit b) (list_all is_ascii_digit s)
 
--- a word is a number, or it is not, or no word is left
-pub number_at : (row : List ℕ) (n k : ℕ) → k < n → is_number (word_of k row) ≡ true → numbers_from (n - (k + 1)) (k + 1) row ≡ numbers_from (n - k) k row
+pub is_number_is : (word : List ℕ) → is_number word ≡ list_all is_ascii_digit word
+unfolding is_number
+is_number_is word = digits_are word
+
+numbers_is : (row : List ℕ) (k n : ℕ) → numbers_from k n row ≡ list_all (λ i. is_number (word_of i row)) (range_with_len n k)
 unfolding numbers_from
-number_at row n k l t = let f : n - k ≡ suc (n - (k + 1)) = omega arith in rw (f, t, add-one k)
+numbers_is row zero n = refl
+numbers_is row (suc k) n = on_test (is_number (word_of n row)) (λ e. rw (e, ← (add-one n), numbers_is row k (n + 1))) (λ e. rw e)
 
-pub no-number-at : (row : List ℕ) (n k : ℕ) → k < n → is_number (word_of k row) ≡ false → false ≡ numbers_from (n - k) k row
-unfolding numbers_from
-no-number-at row n k l t = let f : n - k ≡ suc (n - (k + 1)) = omega arith in rw (f, t)
-
-pub all-numbers : (row : List ℕ) (n k : ℕ) → n ≤ k → true ≡ numbers_from (n - k) k row
-unfolding numbers_from
-all-numbers row n k h = let f : n - k ≡ 0 = omega arith in rw f
+pub are_numbers_is : (row : List ℕ) (first end : ℕ) → are_numbers first end row ≡ list_all (λ i. is_number (word_of i row)) (range_with_len first (end - first))
+are_numbers_is row first end = numbers_is row (end - first) first

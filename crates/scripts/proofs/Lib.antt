@@ -2,3 +2,4 @@ pub mod Meant
 pub mod Filled
 pub mod Queue
 pub mod Digits
+pub mod Tables

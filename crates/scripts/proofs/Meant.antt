@@ -6,6 +6,7 @@ use Prim.Native.Nat.{ℕ, zero, suc, ◌-◌, ◌≤◌}
 use native.Mathlib.Omega.{arith}
 use native.Mathlib.Nat.{le_of_suc-le-suc, not-suc-le-zero}
 use lib.ListN.{length, take, set, length-set}
+use Rattle.std.proofs.lemmas.List.{length-take-le}
 use lib.Seq.{take-nil, take-suc-set, append_snoc}
 use borrow.Author.Tests.{lt-ltb, le-ltb}
 use Rattle.laws.proofs.Passes.{order}
@@ -53,9 +54,12 @@ most row =
     (λ l. rw (lt-ltb (word_value 3 row) 128 l) (omega arith))
     (λ m. rw (le-ltb (word_value 3 row) 128 m) (omega arith))
 
--- so the room lies within an output of 128, and what is lent of it holds # all over
+-- so a row's room lies within an output of 128 bytes, whose front of that length is lent, and holds # all over where the output does
 pub within : (row : List ℕ) {room : ℕ} → room ≡ room_of row → room ≤ 128
 within row e = omega (arith, e, most row)
+
+pub lent_length : (row out : List ℕ) {room : ℕ} → room ≡ room_of row → length out ≡ 128 → room ≡ length (take room out)
+lent_length row out e l = sym (length-take-le _ out (omega (arith, e, l, most row)))
 
 pub lent : (row : List ℕ) {room : ℕ} → room ≡ room_of row → take room (blank_of 128) ≡ blank_of (room_of row)
 lent row e = ap (λ (n : ℕ). take n (blank_of 128)) e ∙ blank-front (room_of row) 128 (most row)

@@ -1,11 +1,12 @@
 // What a row is of.
 ghost use Rattle.std.specs.Prelude.{◌≡◌};
-ghost use Rattle.scripts.specs.Kinds.{unnamed_of, elapsed_row, kind_numbered, kind_of};
+ghost use Rattle.scripts.specs.Kinds.{unnamed_of, elapsed_row, kind_of};
 
 use crate::meanings::named;
 use crate::numbers::are_numbers;
 
 // A row of the desk, of the master or of elapsed time; else a comment, or unknown.
+// Unknown is a kind beside the others, and not None: such a row prints a text of its own, as one of each kind does.
 #[derive(Clone, Copy)]
 pub enum Kind {
     Desk,
@@ -20,13 +21,10 @@ pub enum Kind {
 fn unnamed(row: &[u8]) -> Kind
     ensures { result ≡ unnamed_of row.now }
 {
-    if row.len() == 0 {
-        return Kind::Comment;
+    match row {
+        [] | [b'#', ..] => Kind::Comment,
+        _ => Kind::Unknown,
     }
-    if row[0] == b'#' {
-        return Kind::Comment;
-    }
-    Kind::Unknown
 }
 
 // Elapsed time takes two numbers.
@@ -41,22 +39,18 @@ fn elapsed(row: &[u8]) -> Kind
     }
 }
 
-// By the number of the first word among those that name a row.
-#[tactic(auto, unfolding(crate::specs::Kinds::kind_numbered))]
-fn kind_numbered(n: usize, row: &[u8]) -> Kind
-    ensures { result ≡ kind_numbered n row.now }
-{
-    match n {
-        0 => Kind::Desk,
-        1 => Kind::Master,
-        2 => elapsed(row),
-        _ => unnamed(row),
-    }
-}
-
-#[tactic(auto, unfolding(crate::specs::Kinds::kind_of))]
+// By the first word.
 pub fn kind_of(row: &[u8]) -> Kind
     ensures { result ≡ kind_of row.now }
 {
-    kind_numbered(named(row, 0, b"desk master elapsed", 3), row)
+    named(
+        row,
+        0,
+        &[
+            (b"desk", Kind::Desk),
+            (b"master", Kind::Master),
+            (b"elapsed", elapsed(row)),
+        ],
+    )
+    .unwrap_or(unnamed(row))
 }

@@ -2,6 +2,7 @@
 #![tactic(auto)]
 
 pub mod desks;
+pub mod ends;
 pub mod kinds;
 pub mod masters;
 pub mod meanings;

@@ -1,22 +1,28 @@
 // What the words of a row mean.
 ghost use Rattle.std.specs.Prelude.{◌≡◌};
-ghost use Rattle.text.specs.Fields.{word_of, word_place};
+ghost use Rattle.text.specs.Fields.{word_of};
 ghost use Rattle.text.specs.Putting.{puts};
-ghost use Rattle.scripts.specs.Meanings.{small_at, room_of, record_at, meant_at};
+ghost use Rattle.scripts.specs.Meanings.{named_in, small_at, room_of, record_at, meant_at};
 
 use records::records::Record;
-use text::fields::{from_field, word, word_place, word_value};
+use text::fields::{from_field, same, word, word_value};
 use text::frames::put_meant;
 use text::items::record_said;
 
-// The place of a row's word of this number among so many words; their count where it is none of them.
-pub(crate) fn named(row: &[u8], at: usize, words: &[u8], count: usize) -> usize
-    ensures { result ≡ word_place words.now count (word_of at row.now) }
+// What the word of this number names by a table of words; None where it is none of them.
+#[tactic(auto, unfolding(crate::specs::Meanings::named_in))]
+pub(crate) fn named<T: Copy>(row: &[u8], at: usize, table: &[(&[u8], T)]) -> Option<T>
+    ensures { result ≡ named_in (word_of at row.now) table.now }
 {
-    word_place(words, count, word(row, at))
+    let one = word(row, at);
+    table
+        .iter()
+        .find(|entry| same(entry.0, one))
+        .map(|entry| entry.1)
 }
 
 // A word as a number kept in a byte.
+// By a remainder and `as`: a row's number wraps, and u8::try_from would refuse it.
 pub fn small(row: &[u8], at: usize) -> u8
     ensures { result ≡ small_at at row.now }
 {
@@ -31,8 +37,7 @@ pub const MOST_ROOM: usize = 128;
 pub fn room(row: &[u8]) -> usize
     ensures { result ≡ room_of row.now }
 {
-    let n = word_value(row, 3);
-    if n < 128 { n as usize } else { MOST_ROOM }
+    (word_value(row, 3) as usize).min(MOST_ROOM)
 }
 
 // The record that begins at the word of this number.

@@ -1,15 +1,14 @@
 // What rows print.
+// put_ functions and no Display, as tellings.rt says.
 ghost use Rattle.std.specs.Prelude.{cond, ◌++◌, ◌≡◌};
-ghost use Rattle.text.specs.Items.{record_text};
 ghost use Rattle.text.specs.Putting.{puts};
 ghost use Rattle.scripts.specs.Printing.{began_text, comment_text, unknown_text, elapsed_text, number_text, line_text, end_text, filled_of, first_text, output_text};
 
-use characters::slices::{byte_at, part};
+use crate::tellings::InWords;
+use characters::slices::part;
 use clock::clock::elapsed;
-use records::records::Record;
 use text::fields::word_value;
 use text::frames::put_shown;
-use text::items::put_record;
 use text::numbers::put_number;
 use text::putting::{put_byte, put_text};
 
@@ -49,6 +48,7 @@ pub fn put_elapsed(out: &mut [u8], row: &[u8]) -> usize
 }
 
 // A number behind a word.
+// No put_behind: a type for numbers that are said in words would be longer than these two lines.
 pub fn number(out: &mut [u8], at: usize, word: &[u8], n: u64) -> usize
     ensures { (result, out.new) ≡ puts (number_text word.now n) at out.old }
 {
@@ -56,22 +56,19 @@ pub fn number(out: &mut [u8], at: usize, word: &[u8], n: u64) -> usize
     put_number(out, a, n)
 }
 
-// A record behind a word.
-pub(crate) fn put_behind(out: &mut [u8], at: usize, word: &[u8], rec: Record) -> usize
-    ensures { (result, out.new) ≡ puts (word.now ++ record_text rec) at out.old }
+// Something behind a word.
+pub(crate) fn put_behind<W: InWords>(out: &mut [u8], at: usize, word: &[u8], what: W) -> usize
+    ensures { (result, out.new) ≡ puts (word.now ++ W.words what) at out.old }
 {
     let a = put_text(out, at, word);
-    put_record(out, a, rec)
+    what.put(out, a)
 }
 
 // One text where something holds, another where it does not.
 pub(crate) fn put_either(out: &mut [u8], at: usize, holds: bool, text: &[u8], other: &[u8]) -> usize
     ensures { (result, out.new) ≡ puts (cond holds text.now other.now) at out.old }
 {
-    if holds {
-        return put_text(out, at, text);
-    }
-    put_text(out, at, other)
+    put_text(out, at, if holds { text } else { other })
 }
 
 // A line is good or lost.
@@ -100,20 +97,18 @@ pub(crate) fn end(
 }
 
 // How many of these bytes there are up to the last that is not #.
+#[tactic(auto, using(crate::proofs::Filled::filled_at, crate::proofs::Filled::filled_none))]
 fn filled(bytes: &[u8]) -> usize
     ensures { result ≡ filled_of bytes.now }
 {
-    let mut n = bytes.len();
-    while n > 0 {
-        if byte_at(bytes, n - 1) != b'#' {
-            return n;
-        }
-        n = n - 1;
+    match bytes.iter().rposition(|b| *b != b'#') {
+        Some(last) => last + 1,
+        None => 0,
     }
-    0
 }
 
 // The first n of these bytes behind a word; where there are none, nothing.
+// n stands beside the bytes: it is a state's own count, and that of an altered state may be more than the bytes are.
 pub fn first(out: &mut [u8], at: usize, word: &[u8], bytes: &[u8], n: usize) -> usize
     ensures { (result, out.new) ≡ puts (first_text word.now bytes.now n) at out.old }
 {
@@ -125,6 +120,7 @@ pub fn first(out: &mut [u8], at: usize, word: &[u8], bytes: &[u8], n: usize) -> 
 }
 
 // What stands in an output that held # all over before the call.
+// What is filled is found by the bytes: the row shows what the output holds, whatever count the call answers.
 #[tactic(auto, unfolding(crate::specs::Printing::output_text))]
 pub fn output(out: &mut [u8], at: usize, sent: &[u8]) -> usize
     ensures { (result, out.new) ≡ puts (output_text sent.now) at out.old }

@@ -1,30 +1,24 @@
 // Writing standard output, and words on trouble to standard error.
-use crate::trouble::{fail, try_again};
+// rt stands apart, as lib.rt says.
+use crate::trouble::try_again;
 use characters::slices::part;
 use std::io::{Print, Write};
 
-// Writes the first n bytes, the rest where a write takes only a part; whether all are written. Trouble is said after the words that name the program.
-pub fn write_out(rt: HostRuntime, out: &[u8], n: usize, name: &[u8]) -> bool {
-    let text = part(out, 0, n);
+// Writes the first n bytes, the rest where a write takes only a part; None where they cannot be written. Trouble is said after the words that name the program.
+// n stands beside the bytes, as the put_ functions answer it: each caller would have to cut off the front. The last turn is there as in read_more.
+pub fn write_out(rt: HostRuntime, out: &[u8], n: usize, name: &[u8]) -> Option<()> {
+    let mut rest = part(out, 0, n);
     let mut output = rt.stdout();
-    let mut done: usize = 0;
-    let mut turns = u64::MAX;
-    while turns > 0 {
-        if text.len() <= done {
-            return true;
+    for _ in 0..u64::MAX {
+        if rest.is_empty() {
+            return Some(());
         }
-        match output.write(&text[done..]) {
-            Ok(put) => done = done + put,
-            Err(error) => {
-                if !try_again(rt, error) {
-                    fail(rt, name, error);
-                    return false;
-                }
-            }
+        match output.write(rest) {
+            Ok(put) => rest = &rest[put..],
+            Err(error) => try_again(rt, name, error)?,
         }
-        turns = turns - 1;
     }
-    false
+    None
 }
 
 // Says a text on standard error.

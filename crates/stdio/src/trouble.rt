@@ -1,23 +1,27 @@
 // What to do where a read or a write fails.
+// rt stands apart, as lib.rt says.
 use crate::output::complain;
 use std::io::{Error, ErrorKind};
 use std::thread;
 use std::time::Duration;
 
-// Whether what has just failed is to be done again: a signal came between, or the other end is not ready and gets its turn first.
-pub(crate) fn try_again(rt: HostRuntime, error: Error) -> bool {
+// What has just failed is to be done again where a signal came between, or where the other end is not ready and gets its turn first. Else None: standard error
+// says what failed, and the system's words for why, without its number.
+pub(crate) fn try_again(rt: HostRuntime, name: &[u8], error: Error) -> Option<()> {
     match error.kind() {
-        ErrorKind::Interrupted => true,
+        ErrorKind::Interrupted => Some(()),
         ErrorKind::WouldBlock => {
             thread::sleep(&rt, Duration::from_millis(1));
-            true
+            Some(())
         }
-        _ => false,
+        _ => {
+            fail(rt, name, error);
+            None
+        }
     }
 }
 
-// Says on standard error what failed, and the system's words for why, without its number.
-pub(crate) fn fail(rt: HostRuntime, name: &[u8], error: Error) {
+fn fail(rt: HostRuntime, name: &[u8], error: Error) {
     complain(rt, name);
     match format!(in rt.alloc(); ": {error}") {
         Ok(text) => {

@@ -1,7 +1,9 @@
 -- What digits say, one after the other. Assumes nothing.
-use Rattle.std.proofs.Common.{◌≡◌, ℕ, suc, ◌+◌, ◌-◌, ◌*◌, ◌%◌, ◌^◌, ◌<◌, ◌≤◌, true, List, [], ◌∷◌, length, get_or, drop, sym, refl, ap, ◌∙◌, ap₂, add-one, arith, drop_of_length-le, drop-cons}
+use Rattle.std.proofs.Common.{◌≡◌, ℕ, ◌+◌, ◌-◌, ◌*◌, ◌%◌, ◌^◌, ◌<◌, true, List, [], ◌∷◌, sym, refl, ◌∙◌, ap₂, arith}
 use native.Mathlib.Nat.{add-mod, mod-mod}
+use Rattle.std.specs.List.{fold}
 use Rattle.laws.specs.Numerals.{number_on}
+use Rattle.text.specs.Numbers.{number_said}
 
 -- sums of numbers that agree modulo m agree
 sums : (m a b x y : ℕ) → a % m ≡ x % m → b % m ≡ y % m → (a + b) % m ≡ (x + y) % m
@@ -20,15 +22,14 @@ agree (d ∷ s) m a b h =
     let q : b * 10 ≡ b + b + (b + b) + (b + b + (b + b)) + (b + b) = omega arith in
     agree s m (a * 10 + (d - 48) % 10) (b * 10 + (d - 48) % 10) (sums m (a * 10) ((d - 48) % 10) (b * 10) ((d - 48) % 10) (rw (p, q) ten) refl)
 
--- one digit more
-pub digit-on : (s : List ℕ) (i n b m : ℕ) → i < length s → b ≡ get_or s i 0 → m ≡ (n * 10 + (b - 48) % 10) % 2 ^ 64
-    → number_on true m (drop (i + 1) s) % 2 ^ 64 ≡ number_on true n (drop i s) % 2 ^ 64
+-- the number is what the digits give one by one
+digits-on : (s : List ℕ) (n : ℕ) → n < 2 ^ 64 → number_on true n s % 2 ^ 64 ≡ fold (λ m b. (m * 10 + (b - 48) % 10) % 2 ^ 64) n s
 unfolding number_on
-digit-on s i n b m l e f =
-    rw (add-one i, drop-cons s i 0 l, ← e)
-    (agree (drop (suc i) s) (2 ^ 64) m (n * 10 + (b - 48) % 10) (ap (λ (k : ℕ). k % 2 ^ 64) f ∙ mod-mod (n * 10 + (b - 48) % 10) (2 ^ 64)))
+digits-on [] n l = omega arith
+digits-on (d ∷ s) n l =
+    agree s (2 ^ 64) (n * 10 + (d - 48) % 10) ((n * 10 + (d - 48) % 10) % 2 ^ 64) (sym (mod-mod (n * 10 + (d - 48) % 10) (2 ^ 64)))
+    ∙ digits-on s ((n * 10 + (d - 48) % 10) % 2 ^ 64) (omega arith)
 
--- no digit is left
-pub all_read : (s : List ℕ) (i n : ℕ) → length s ≤ i → n < 2 ^ 64 → n ≡ number_on true n (drop i s) % 2 ^ 64
-unfolding number_on
-all_read s i n h f = rw (drop_of_length-le s {i = i} h) (omega arith)
+pub number_is : (s : List ℕ) → number_said s ≡ fold (λ m b. (m * 10 + (b - 48) % 10) % 2 ^ 64) 0 s
+unfolding number_said
+number_is s = digits-on s 0 (omega arith)

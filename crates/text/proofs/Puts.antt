@@ -1,7 +1,8 @@
 -- Texts put into an output one behind the other. Assumes nothing.
-use Rattle.std.proofs.Common.{◌≡◌, ℕ, suc, ◌+◌, ◌-◌, ◌<◌, ◌≤◌, List, [], ◌∷◌, ◌++◌, length, get_or, take, drop, set, sym, refl, ap, ◌∙◌, append_assoc, append-nil}
-use Rattle.std.proofs.Common.{add-zero, add-suc, suc-add, zero-add, add-one, arith, length-append, length-drop, length-set, take-append-drop, drop_of_length-le}
-use Rattle.std.proofs.Common.{length-take, length-take-le, take_all, drop-cons, drop-drop, take-suc-set, take_at, drop-set-lt, drop_at, le-ltb, lt-ltb}
+use Rattle.std.proofs.Common.{◌≡◌, ℕ, suc, ◌+◌, ◌-◌, ◌<◌, ◌≤◌, List, [], ◌∷◌, ◌++◌, length, take, drop, set, sym, refl, ap, ◌∙◌, append_assoc}
+use Rattle.std.proofs.Common.{add-zero, add-suc, suc-add, zero-add, arith, length-append, length-drop, length-set, min, take-append-drop}
+use Rattle.std.proofs.Common.{length-take-le, take_all, drop-drop, take-suc-set, take_at, drop-set-lt, drop_at, le-ltb, lt-ltb}
+use Rattle.std.proofs.Math.Seq.{take-nil}
 use Rattle.laws.proofs.Passes.{order}
 use Rattle.text.specs.Putting.{puts, placed}
 
@@ -30,10 +31,6 @@ then t u at out a r o x h g = g ∙ onward t u at out a o h
 pub part-on : (t u : List ℕ) (at : ℕ) (out : List ℕ) (a : ℕ) (o : List ℕ) {left : List ℕ} {whole : ℕ × List ℕ} → (a, o) ≡ puts t at out → left ≡ t ++ u → puts left at out ≡ whole → puts u a o ≡ whole
 part-on t u at out a o h e g = onward t u at out a o h ∙ ap (λ (x : List ℕ). puts x at out) (sym e) ∙ g
 
--- what is left of a text from a place on
-pub from-here : (s : List ℕ) (i b : ℕ) → i < length s → b ≡ get_or s i 0 → drop i s ≡ b ∷ drop (i + 1) s
-from-here s i b l e = rw (add-one i, e) (drop-cons s i 0 l)
-
 -- where all of a text has room
 pub with-room : (t : List ℕ) (at : ℕ) (out : List ℕ) → at + length t ≤ length out → puts t at out ≡ placed t at out
 unfolding puts placed
@@ -45,20 +42,37 @@ with-room (b ∷ t) at out h =
     (with-room t (suc at) (set out at b) r
     ∙ rw (suc-add at (length t), ← (add-suc at (length t)), take-suc-set out at b l, drop-set-lt (at + suc (length t)) out at b (omega arith), append_assoc))
 
+-- what has no room is dropped
+cut : (t : List ℕ) (at : ℕ) (out : List ℕ) → puts t at out ≡ puts (take (length out - at) t) at out
+unfolding puts
+cut [] at out = rw (take-nil (length out - at))
+cut (b ∷ t) at out =
+    order at (length out)
+    (λ l.
+    let e : length out - at ≡ suc (length out - suc at) = omega arith in
+    let f : length (set out at b) - suc at ≡ length out - suc at = rw length-set in
+    rw (e, lt-ltb at (length out) l, ← f) (cut t (suc at) (set out at b)))
+    (λ m. let e : length out - at ≡ 0 = omega arith in rw (e, le-ltb at (length out) m))
+
 -- a text that was put in front of an output stands there
 pub at_front : (t out : List ℕ) → length t ≤ length out → take (puts t 0 out).0 (puts t 0 out).1 ≡ t
 unfolding placed
 at_front t out h = rw (with-room t 0 out (omega arith)) (take_at t (drop (0 + length t) out) (0 + length t) (sym (zero-add (length t))))
 
--- a text that was copied into its stretch of an output
-pub in-stretch : (t : List ℕ) (at k : ℕ) (out new : List ℕ) → at + length t ≤ length out → k ≡ length t
-    → new ≡ take (length t) t ++ drop (length t) (take k (drop at out)) → (at + length t, take at out ++ (new ++ drop k (drop at out))) ≡ puts t at out
+-- as much of a text as there is of it
+pub take-least : (t : List ℕ) (m n : ℕ) → n ≡ min (length t) m → take m t ≡ take n t
+take-least t m n h =
+    order m (length t) (λ l. let e : m ≡ n = omega arith in rw e)
+    (λ l. let e : length t ≤ n = omega arith in take_all m t l ∙ sym (take_all n t e))
+
+-- as much of a text as has room was copied into its stretch of an output
+pub in-stretch : (t : List ℕ) (at n k : ℕ) (out new : List ℕ) → at ≤ length out → n ≡ min (length t) (length out - at) → k ≡ n → new ≡ take n t
+    → (at + n, take at out ++ (new ++ drop k (drop at out))) ≡ puts t at out
 unfolding placed
-in-stretch t at k out new h q e =
-    let whole = take_all (length t) t (omega arith) in
-    let none = drop_of_length-le (take k (drop at out)) {i = length t} (omega (arith, q, length-take k (drop at out))) in
-    let n : new ≡ t = e ∙ rw (whole, none, append-nil) in
-    rw (n, q, drop-drop (length t) at out) (sym (with-room t at out h))
+in-stretch t at n k out new h q e f =
+    let l : length (take n t) ≡ n = length-take-le n t (omega arith) in
+    let p = with-room (take n t) at out (omega arith) in
+    rw (e, f, drop-drop n at out) (sym (cut t at out ∙ ap (λ (x : List ℕ). puts x at out) (take-least t (length out - at) n q) ∙ p ∙ rw l))
 
 -- nothing is left of a text
 pub put_all : (left text : List ℕ) (at : ℕ) (out : List ℕ) (a : ℕ) (o : List ℕ) → left ≡ [] → puts left a o ≡ puts text at out → (a, o) ≡ puts text at out

@@ -1,5 +1,5 @@
 -- Frames byte by byte. Assumes nothing.
-use Rattle.std.proofs.Common.{◌≡◌, ℕ, zero, suc, ◌+◌, ◌<◌, ◌≤◌, false, eqb, List, [], ◌∷◌, length, get_or, drop, sym, refl, ap, ◌∙◌, ap₂, add-one, drop_of_length-le, drop-cons, eqb-true}
+use Rattle.std.proofs.Common.{◌≡◌, ℕ, zero, suc, ◌+◌, ◌<◌, ◌≤◌, false, eqb, List, [], ◌∷◌, length, get_or, drop, sym, refl, ap, ◌∙◌, ap₂, add-one, arith, drop_of_length-le, drop-cons, eqb-true}
 use Rattle.laws.specs.Text.{codes}
 use Rattle.laws.specs.Truth.{All, one_of}
 use Rattle.laws.proofs.Truths.{clash}
@@ -18,20 +18,18 @@ unfolded : (x : ℕ) (t : List ℕ) → meant_on 0 (x ∷ t) ≡ byte_meant (x �
 unfolding meant_on
 unfolded x t = ap (λ (u : List ℕ). byte_meant (x ∷ t) ∷ u) (behind (passed x) t)
 
-pub meant-here : (s : List ℕ) (i next b : ℕ) → i < length s → drop next s ≡ drop (passed (get_or s i 0)) (drop (i + 1) s) → b ≡ byte_meant (drop i s)
-    → meant_on 0 (drop i s) ≡ b ∷ meant_on 0 (drop next s)
-meant-here s i next b l h e =
-    let d : drop i s ≡ get_or s i 0 ∷ drop (i + 1) s = rw (add-one i) (drop-cons s i 0 l) in
-    ap (meant_on 0) d ∙ unfolded (get_or s i 0) (drop (i + 1) s) ∙ ap₂ (λ (x : ℕ) (u : List ℕ). x ∷ meant_on 0 u) (ap byte_meant (sym d) ∙ sym e) (sym h)
+pub meant_here : (s t u : List ℕ) (x b : ℕ) → s ≡ x ∷ t → u ≡ drop (passed x) t → b ≡ byte_meant s → meant_on 0 s ≡ b ∷ meant_on 0 u
+meant_here s t u x b d h e = ap (meant_on 0) d ∙ unfolded x t ∙ ap₂ (λ (y : ℕ) (v : List ℕ). y ∷ meant_on 0 v) (ap byte_meant (sym d) ∙ sym e) (sym h)
 
 pub shown-here : (s : List ℕ) (i b : ℕ) → i < length s → b ≡ shown_byte (get_or s i 0) → shown_as (drop i s) ≡ b ∷ shown_as (drop (i + 1) s)
 unfolding shown_as
 shown-here s i b l e = rw (add-one i, drop-cons s i 0 l, e)
 
 -- no byte is left
-pub meant-done : (s : List ℕ) (i : ℕ) → length s ≤ i → meant_on 0 (drop i s) ≡ []
+pub meant_done : (s : List ℕ) → length s ≡ 0 → meant_on 0 s ≡ []
 unfolding meant_on
-meant-done s i h = rw (drop_of_length-le s {i = i} h)
+meant_done [] h = refl
+meant_done (b ∷ s) h = let z : ⊥ = omega arith in absurd z
 
 pub shown-done : (s : List ℕ) (i : ℕ) → length s ≤ i → shown_as (drop i s) ≡ []
 unfolding shown_as

@@ -1,7 +1,10 @@
 -- A record's values one after the other. Assumes nothing.
 use Rattle.std.proofs.Common.{◌≡◌, ℕ, zero, suc, ◌+◌, ◌<◌, ◌≤◌, eqb, List, [], ◌∷◌, ◌++◌, length, get_or, take}
-use Rattle.std.proofs.Common.{drop, set, sym, refl, ap, ◌∙◌, zero-add, add-one, arith, drop_of_length-le, drop-cons, get_or-set_other, get_or-set_same, ext_get_or, eqb-true}
+use Rattle.std.proofs.Common.{drop, set, sym, refl, subst, ap, ◌∙◌, zero-add, add-one, arith, drop_of_length-le, drop-cons, get_or-set_other, get_or-set_same, ext_get_or, eqb-true}
 use borrow.Author.Tests.{eqb-false}
+use denote.Param.Members.{Mut}
+use Rattle.std.specs.Fn.{Called}
+use Rattle.std.specs.Array.{IsFromFnResultFrom}
 use Rattle.laws.proofs.Passes.{on_test}
 use Rattle.laws.specs.Truth.{pad}
 use Rattle.records.specs.declared.records.Record.{Record}
@@ -66,6 +69,16 @@ taken thing d v j x l e h k g =
     on_test (eqb k j)
     (λ q. let f : k ≡ j = eqb-true k j q in rw (f, get_or-set_same v j x d l) e)
     (λ q. get_or-set_other v j k x d (eqb-false k j q) ∙ h k (omega (arith, eqb-false k j q)))
+
+-- what calls give that leave the closure as it was
+pub given : {F B : Type 0} (g : Mut F (ℕ × Unit {0}) B) (thing : ℕ → B) (d : B) (f : F) → ((i : ℕ) (y : B) (q : F) → Called g f (i, tt) y q → (q ≡ f) × (y ≡ thing i))
+    → (ys : List B) (n i : ℕ) → IsFromFnResultFrom g f ys i n → (k : ℕ) → i ≤ k → k < i + n → get_or ys k d ≡ thing k
+given g thing d f same ys zero i h k l m = let z : ⊥ = omega arith in absurd z
+given {F = F} g thing d f same ys (suc n) i (q, y, at, call, rest) k l m =
+    let s = same i y q call in
+    on_test (eqb k i)
+    (λ e. let h : k ≡ i = eqb-true k i e in rw h (at.1 d ∙ s.1))
+    (λ e. given g thing d f same ys n (i + 1) (subst (λ (p : F). IsFromFnResultFrom g p ys (i + 1) n) s.0 rest) k (omega (arith, eqb-false k i e)) (omega arith))
 
 pub all-taken : (s v : List ℕ) → length v ≡ 10 → ((k : ℕ) → k < 10 → get_or v k 0 ≡ word_value k s) → v ≡ word_values s
 unfolding word_values

@@ -7,6 +7,7 @@ use crate::numbers::put_number;
 use crate::putting::put_text;
 
 // How many bytes were sent.
+// No Display, as putting says. This and put_count have a word behind and a word before: one function of both is no shorter.
 pub fn put_bytes(out: &mut [u8], at: usize, n: usize) -> usize
     ensures { (result, out.new) ≡ puts (bytes_text n) at out.old }
 {

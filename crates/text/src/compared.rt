@@ -7,6 +7,7 @@ use crate::fields::same;
 use crate::putting::put_text;
 
 // A text behind another.
+// No Display, as putting says.
 fn put_behind(out: &mut [u8], at: usize, word: &[u8], text: &[u8]) -> usize
     ensures { (result, out.new) ≡ puts (word.now ++ text.now) at out.old }
 {
@@ -25,6 +26,7 @@ fn put_end(out: &mut [u8], at: usize, agree: bool) -> usize
 }
 
 // A row: its name, what was expected and what came.
+// The two texts stay arguments, as row_text takes them; counted alone takes them too.
 pub fn put_row(out: &mut [u8], at: usize, name: &[u8], expected: &[u8], came: &[u8]) -> usize
     ensures { (result, out.new) ≡ puts (row_text name.now expected.now came.now) at out.old }
 {

@@ -7,6 +7,7 @@ use crate::putting::put_text;
 use characters::slices::byte_at;
 
 // Puts a number at a place, and answers the place behind it.
+// No Display: bytes of a block or a log.
 pub fn put_four(out: &mut [u8], at: usize, n: u32) -> usize
     ensures { (result, out.new) ≡ puts (four_bytes n) at out.old }
 {

@@ -7,6 +7,7 @@ ghost use Rattle.text.specs.Hex.{hex_digit, hex_says};
 use crate::putting::put_byte;
 use characters::checksum::hex;
 
+// No Display, as putting says.
 #[tactic(auto, unfolding(crate::specs::Putting::puts, characters::specs::Checksum::check_text))]
 pub fn put_hex(out: &mut [u8], at: usize, byte: u8) -> usize
     ensures { (result, out.new) ≡ puts (check_text byte) at out.old }
@@ -16,6 +17,7 @@ pub fn put_hex(out: &mut [u8], at: usize, byte: u8) -> usize
 }
 
 // What one digit says; other characters say 0.
+// No to_digit, which takes small letters too: docs/PROMISES.md has hex_value as Hex.hex_says, where they say 0.
 #[tactic(auto, unfolding(crate::specs::Hex::hex_digit))]
 fn digit_value(b: u8) -> u8
     ensures { (result ≡ hex_digit b) × (result < 16) }

@@ -13,6 +13,7 @@ use records::records::{Record, count_of, record_of, type_of, values_of};
 use records::refusals::{Refusal, number_of, place_of};
 
 // `no`, a refusal's number and its place.
+// No Display, as putting says. Number and place and no Refusal, as the clause has them: a replay's place counts from the front of its log.
 pub fn put_no(out: &mut [u8], at: usize, number: u8, place: usize) -> usize
     ensures { (result, out.new) ≡ puts (refusal_text (no number place)) at out.old }
 {
@@ -41,13 +42,14 @@ fn put_numbers(out: &mut [u8], at: usize, v: &[u32]) -> usize
     ensures { (result, out.new) ≡ puts (values_text v.now) at out.old }
 {
     let mut place = at;
-    for j in 0..v.len() {
-        place = put_value(out, place, v[j]);
+    for n in v {
+        place = put_value(out, place, *n);
     }
     place
 }
 
 // A record's values, each behind a space.
+// The record's values are the first so many of ten places: fixed memory.
 pub fn put_values(out: &mut [u8], at: usize, rec: Record) -> usize
     ensures { (result, out.new) ≡ puts (values_text (fields_of rec)) at out.old }
 {
@@ -68,14 +70,11 @@ pub fn put_record(out: &mut [u8], at: usize, rec: Record) -> usize
 pub fn word_values(s: &[u8]) -> [u32; 10]
     ensures { result ≡ word_values s.now }
 {
-    let mut v = [0u32; 10];
-    for j in 0..10usize {
-        v[j] = word_value(s, j);
-    }
-    v
+    std::array::from_fn(|j| word_value(s, j))
 }
 
 // The record that a text says: a type, and values behind it.
+// No FromStr: any text says a record, as any letter does (record_of).
 pub fn record_said(s: &[u8]) -> Record
     ensures { result ≡ record_said s.now }
 {

@@ -4,7 +4,6 @@ ghost use Rattle.text.specs.Putting.{puts};
 ghost use Rattle.text.specs.Numbers.{decimal_text, number_said};
 
 use crate::putting::put_byte;
-use characters::slices::byte_at;
 use std::num::wrapping_add_u64;
 
 // The last digit of a number, as a character.
@@ -15,6 +14,7 @@ fn digit(n: u64) -> u8
 }
 
 // A number without leading zeros: what stands before its last digit, and then that.
+// No Display, as putting says. By recursion: the last digit is found first and put last.
 pub fn put_number(out: &mut [u8], at: usize, n: u64) -> usize
     ensures { (result, out.new) ≡ puts (decimal_text n) at out.old }
 {
@@ -26,6 +26,7 @@ pub fn put_number(out: &mut [u8], at: usize, n: u64) -> usize
 }
 
 // What a digit says.
+// No to_digit: any byte has a value here, as number_said has it.
 fn digit_value(b: u8) -> u64
     ensures { result ≡ (b - 48) % 10 }
 {
@@ -36,6 +37,7 @@ fn digit_value(b: u8) -> u64
 }
 
 // A number with one digit more behind it.
+// values::numbers has this and digit of 32 bits and two bases, where nothing wraps.
 fn with_digit(n: u64, b: u8) -> u64
     ensures { result ≡ (n * 10 + (b - 48) % 10) % 2 ^ 64 }
 {
@@ -46,13 +48,10 @@ fn with_digit(n: u64, b: u8) -> u64
 }
 
 // The number that decimal digits say, of 64 bits.
-#[tactic(auto, unfolding(crate::specs::Numbers::number_said))]
+// No FromStr: any bytes say a number, which wraps.
+#[tactic(auto, using(crate::proofs::Parsed::number_is))]
 pub fn number(s: &[u8]) -> u64
     ensures { result ≡ number_said s.now }
 {
-    let mut n: u64 = 0;
-    for i in 0..s.len() {
-        n = with_digit(n, byte_at(s, i));
-    }
-    n
+    s.iter().fold(0, |n, b| with_digit(n, *b))
 }

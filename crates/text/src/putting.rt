@@ -2,8 +2,7 @@
 ghost use Rattle.std.specs.Prelude.{◌≡◌, [], ◌∷◌};
 ghost use Rattle.text.specs.Putting.{puts};
 
-use characters::slices::{byte_at, copy};
-
+// put_ functions and no Display: the bytes of each row are promised one by one, frames have bytes that are no text, and there is no heap.
 #[tactic(auto, unfolding(crate::specs::Putting::puts))]
 pub fn put_byte(out: &mut [u8], at: usize, byte: u8) -> usize
     ensures { (result, out.new) ≡ puts (byte ∷ []) at out.old }
@@ -15,29 +14,14 @@ pub fn put_byte(out: &mut [u8], at: usize, byte: u8) -> usize
     at
 }
 
-// Byte after byte, while there is room.
-#[tactic(auto, unfolding(crate::specs::Putting::puts))]
-fn put_each(out: &mut [u8], at: usize, text: &[u8]) -> usize
-    ensures { (result, out.new) ≡ puts text.now at out.old }
-{
-    let mut place = at;
-    for i in 0..text.len() {
-        place = put_byte(out, place, byte_at(text, i));
-    }
-    place
-}
-
-// A text that all has room is copied in one go.
+// As much of a text as has room, copied in one go.
 pub fn put_text(out: &mut [u8], at: usize, text: &[u8]) -> usize
     ensures { (result, out.new) ≡ puts text.now at out.old }
 {
     if out.len() <= at {
         return at;
     }
-    if out.len() - at < text.len() {
-        return put_each(out, at, text);
-    }
-    let end = at + text.len();
-    copy(text, &mut out[at..end]);
-    end
+    let n = text.len().min(out.len() - at);
+    out[at..at + n].copy_from_slice(&text[..n]);
+    at + n
 }

@@ -42,6 +42,7 @@ impl Tally {
 }
 
 // The row that counts the others.
+// No Display, as putting says.
 pub fn put_tally(out: &mut [u8], at: usize, tally: Tally) -> usize
     ensures { (result, out.new) ≡ puts (tally_text tally) at out.old }
 {

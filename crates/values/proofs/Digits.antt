@@ -1,37 +1,17 @@
 -- A number's digits, one after the other: written and taken from the last, read from the first. Assumes nothing.
 use mathlib.Core.Path.{◌≡◌, refl}
 use mathlib.Core.Bool.{Bool, true, false}
-use mathlib.Core.List.{List}
-use Prim.Native.Nat.{ℕ, zero, suc, ◌+◌, ◌-◌, ◌*◌, ◌/◌, ◌%◌, ◌^◌, ◌≤◌, ◌<◌}
+use Prim.Native.Nat.{ℕ, suc, ◌+◌, ◌-◌, ◌*◌, ◌/◌, ◌%◌, ◌^◌, ◌≤◌, ◌<◌}
 use native.Mathlib.Omega.{arith}
 use native.Mathlib.Numerals.{add-one}
 use native.Mathlib.Nat.{pow-suc, pow-le-pow_right}
 use lib.Dec.{lit<}
-use lib.ListN.{length, drop, get_or, set, length-set}
-use lib.Seq.{drop-cons, get_or-set_same, drop-set-lt}
-use Rattle.laws.specs.Numerals.{base, nought, numeral_on, left_of, number_on}
+use Rattle.laws.specs.Numerals.{base, nought, left_of}
 
-module _ (decimal : Bool) (m q : ℕ) (e : q ≡ m / base decimal) where
-  -- one digit more is written
-  pub digit-step : (l : List ℕ) (i x : ℕ) → 0 < i → i ≤ length l → x ≡ nought decimal + m % base decimal
-      → numeral_on decimal (i - 1) q (drop (i - 1) (set l (i - 1) x)) ≡ numeral_on decimal i m (drop i l)
-  unfolding numeral_on
-  digit-step l zero x h g f = let z : ⊥ = omega arith in absurd z
-  digit-step l (suc j) x h g f =
-      let k : suc j - 1 ≡ j = omega arith in
-      rw (k, drop-cons (set l j x) j 0 (rw length-set g), get_or-set_same l j x 0 g, drop-set-lt (suc j) l j x (omega arith), e, f)
-
-  -- one digit more is taken
-  pub left_step : (i : ℕ) → 0 < i → left_of decimal (i - 1) q ≡ left_of decimal i m
-  unfolding left_of
-  left_step zero h = let z : ⊥ = omega arith in absurd z
-  left_step (suc j) h = let k : suc j - 1 ≡ j = omega arith in rw (k, e)
-
--- one digit more is read
-pub number_step : (decimal : Bool) (s : List ℕ) (i a : ℕ) → i < length s
-    → number_on decimal a (drop i s) ≡ number_on decimal (a * base decimal + (get_or s i 0 - nought decimal) % base decimal) (drop (i + 1) s)
-unfolding number_on
-number_step decimal s i a h = rw (add-one, drop-cons s i 0)
+-- one digit more is taken
+pub left_step : (decimal : Bool) (m q w k : ℕ) → k < w → q ≡ m / base decimal → left_of decimal (w - (k + 1)) q ≡ left_of decimal (w - k) m
+unfolding left_of
+left_step decimal m q w k h e = let i : w - k ≡ suc (w - (k + 1)) = omega arith in rw (i, e)
 
 -- no digits say a number below 1
 pub no_digit : (decimal : Bool) → 0 < base decimal ^ 0
@@ -39,9 +19,9 @@ no_digit true = lit< tt
 no_digit false = lit< tt
 
 -- so many digits say a number below that power of the base
-pub digit-more : (decimal : Bool) (i a b : ℕ) → a < base decimal ^ i → a * base decimal + (b - nought decimal) % base decimal < base decimal ^ (i + 1)
-digit-more true i a b h = rw (add-one, pow-suc) (omega arith)
-digit-more false i a b h = rw (add-one, pow-suc) (omega arith)
+pub digit_more : (decimal : Bool) (i a b : ℕ) → a < base decimal ^ i → a * base decimal + (b - nought decimal) % base decimal < base decimal ^ (i + 1)
+digit_more true i a b h = rw (add-one, pow-suc) (omega arith)
+digit_more false i a b h = rw (add-one, pow-suc) (omega arith)
 
 -- and it is small where the digits are few
 pub few : (decimal : Bool) (n i : ℕ) → n ≤ 6 → (decimal ≡ false → n ≤ 3) → i < n → base decimal ^ i ≤ 100000

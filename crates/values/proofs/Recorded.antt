@@ -3,11 +3,10 @@ use mathlib.Core.Path.{◌≡◌, ap, ◌∙◌, subst}
 use mathlib.Core.Bool.{true, false, cond}
 use mathlib.Core.List.{List}
 use Prim.Native.Nat.{ℕ, ◌+◌}
-use Rattle.forms.specs.Forms.{form_of, slots_of, width_of}
+use Rattle.forms.specs.Forms.{Looked, form_of, slots_of, width_of}
 use Rattle.values.specs.Values.{row_of, permits_values, permits_record, length_of}
 use Rattle.records.specs.Records.{type_of, letter_of, values_of}
 use Rattle.records.specs.declared.records.Record.{Record}
-use Rattle.forms.specs.declared.table.Looked.{Looked}
 
 -- the row that was looked up by a record's type and letter is its row
 pub record-looked : (line : ℕ) (rec : Record) (k letter : ℕ) (looked : Looked) → k ≡ type_of rec → letter ≡ letter_of rec → looked ≡ form_of line k letter → looked ≡ row_of line rec

@@ -5,12 +5,11 @@ use mathlib.Core.List.{List, [], ◌∷◌}
 use Prim.Native.Nat.{ℕ, zero, suc, ◌+◌, ◌-◌, ◌/◌, ◌%◌, ◌<◌}
 use native.Mathlib.Omega.{arith}
 use native.Mathlib.Nat.{add-zero}
-use borrow.Author.Tests.{eq-eqb, ne_eqb}
 use Rattle.laws.specs.Truth.{both}
 use Rattle.laws.proofs.Passes.{both-off}
 use Rattle.laws.specs.Numerals.{base, nought, numeral_on, numeral}
-use Rattle.values.specs.Packets.{lead_of, is_decimal, permits}
-use Rattle.values.specs.Values.{text_of, permitted_from}
+use Rattle.values.specs.Packets.{permits}
+use Rattle.values.specs.Values.{permitted_from}
 
 -- two tests, and a third behind them
 grouped : (a b c : Bool) → both a (both b c) ≡ both (both a (both b true)) c
@@ -48,33 +47,9 @@ module _ (line kind letter at : ℕ) (decimal : Bool) where
         go zero z = let y : ⊥ = omega arith in absurd y
         go (suc w) z = let k : suc w - 1 ≡ w = omega arith in rw (k, d) (in-front w (m / base decimal) ((nought decimal + m % base decimal) ∷ []))
 
-    pub last-good : (q : ℕ) → q ≡ m / base decimal → permits line kind letter (at + (i - 1)) x ≡ true
+    pub last_good : (q : ℕ) → q ≡ m / base decimal → permits line kind letter (at + (i - 1)) x ≡ true
         → permitted_from line kind letter at (numeral decimal i m) ≡ permitted_from line kind letter at (numeral decimal (i - 1) q)
-    last-good q e g = last ∙ rw (g, e) (whole (permitted_from line kind letter at (numeral decimal (i - 1) (m / base decimal))))
+    last_good q e g = last ∙ rw (g, e) (whole (permitted_from line kind letter at (numeral decimal (i - 1) (m / base decimal))))
 
-    pub last-bad : permits line kind letter (at + (i - 1)) x ≡ false → permitted_from line kind letter at (numeral decimal i m) ≡ false
-    last-bad g = last ∙ rw g (both-off (permitted_from line kind letter at (numeral decimal (i - 1) (m / base decimal))) false refl)
-
--- a value with a lead: the lead decides, or the number behind it does
-module _ (line kind letter lead n : ℕ) (e : lead ≡ lead_of letter) where
-  pub spelt-plain : (w : ℕ) → lead ≡ 0 → permitted_from line kind letter 0 (numeral (is_decimal letter) w n) ≡ permitted_from line kind letter 0 (text_of letter w n)
-  unfolding text_of
-  spelt-plain w z = rw (eq-eqb (lead_of letter) 0 (sym e ∙ z))
-
-  module _ (z : lead ≡ 0 → ⊥) where
-    pub spelt-none : (w : ℕ) → w ≡ 0 → true ≡ permitted_from line kind letter 0 (text_of letter w n)
-    unfolding text_of permitted_from
-    spelt-none w h = rw (h, ne_eqb (lead_of letter) 0 (λ q. z (e ∙ q)))
-
-    by-lead : (w : ℕ) → (w ≡ 0 → ⊥)
-        → permitted_from line kind letter 0 (text_of letter w n) ≡ both (permits line kind letter 0 lead) (permitted_from line kind letter 1 (numeral (is_decimal letter) (w - 1) n))
-    unfolding text_of permitted_from
-    by-lead zero h = let y : ⊥ = h refl in absurd y
-    by-lead (suc v) h = let k : suc v - 1 ≡ v = omega arith in rw (k, ne_eqb (lead_of letter) 0 (λ q. z (e ∙ q)), e)
-
-    pub spelt-bad : (w : ℕ) → (w ≡ 0 → ⊥) → permits line kind letter 0 lead ≡ false → false ≡ permitted_from line kind letter 0 (text_of letter w n)
-    spelt-bad w h g = rw (by-lead w h, g)
-
-    pub spelt-led : (w : ℕ) → (w ≡ 0 → ⊥) → permits line kind letter 0 lead ≡ true
-        → permitted_from line kind letter 1 (numeral (is_decimal letter) (w - 1) n) ≡ permitted_from line kind letter 0 (text_of letter w n)
-    spelt-led w h g = rw (by-lead w h, g)
+    pub last_bad : permits line kind letter (at + (i - 1)) x ≡ false → permitted_from line kind letter at (numeral decimal i m) ≡ false
+    last_bad g = last ∙ rw g (both-off (permitted_from line kind letter at (numeral decimal (i - 1) (m / base decimal))) false refl)

@@ -2,11 +2,10 @@
 use Rattle.std.specs.Prelude.{ℕ, zero, suc, ◌+◌, ◌-◌, Bool, true, cond, List, [], ◌∷◌, eqb, leb, length, get_or, drop}
 use Rattle.laws.specs.Truth.{both, either}
 use Rattle.laws.specs.Numerals.{numeral, left_of, number_on}
-use Rattle.forms.specs.Forms.{Slot, slots_of, width_of, form_of}
+use Rattle.forms.specs.Forms.{Looked, Slot, slots_of, width_of, form_of}
 use Rattle.values.specs.Packets.{lead_of, is_decimal, permits, ruled, permits_number}
 use Rattle.records.specs.Records.{type_of, letter_of, values_of}
 use Rattle.records.specs.declared.records.Record.{Record}
-use Rattle.forms.specs.declared.table.Looked.{Looked}
 
 -- the lead, and behind it the number, in w characters
 abbrev pub led : ℕ → Bool → ℕ → ℕ → List ℕ

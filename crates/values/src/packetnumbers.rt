@@ -3,14 +3,14 @@ ghost use Rattle.std.specs.Prelude.{◌≡◌};
 ghost use Rattle.values.specs.PacketNumbers.{lead_of, is_decimal, ruled, permits_number};
 
 // The fixed character that a value begins with, 0 where it has none: F's C, the colon of M and V.
+// 0 and no Option: docs/PROMISES.md has it as PacketNumbers.lead_of, which says 0. A packet letter is a u8: a telegram may have any byte there.
 #[tactic(auto, unfolding(crate::specs::PacketNumbers::lead_of))]
 pub fn lead_of(letter: u8) -> u8
     ensures { result ≡ lead_of letter }
 {
     match letter {
         b'F' => b'C',
-        b'M' => b':',
-        b'V' => b':',
+        b'M' | b'V' => b':',
         _ => 0,
     }
 }
@@ -20,13 +20,10 @@ pub fn lead_of(letter: u8) -> u8
 pub fn is_decimal(letter: u8) -> bool
     ensures { result ≡ is_decimal letter }
 {
-    match letter {
-        b'L' | b'%' | b'H' | b'E' => true,
-        b'S' | b'D' => true,
-        b'C' | b'T' | b'R' => true,
-        b'F' | b'P' => true,
-        _ => false,
-    }
+    matches!(
+        letter,
+        b'L' | b'%' | b'H' | b'E' | b'S' | b'D' | b'C' | b'T' | b'R' | b'F' | b'P'
+    )
 }
 
 // Whether there is a rule for the number of a packet's value.
@@ -42,12 +39,5 @@ pub(crate) fn is_ruled(line: u8, letter: u8) -> bool
 pub(crate) fn permits_number(line: u8, letter: u8, n: u32) -> bool
     ensures { result ≡ permits_number line letter n }
 {
-    match letter {
-        b'R' => match n {
-            0 => true,
-            88 => true,
-            _ => false,
-        },
-        _ => true,
-    }
+    letter != b'R' || matches!(n, 0 | 88)
 }

@@ -9,50 +9,27 @@ use forms::table::data_type;
 fn is_digit(b: u8) -> bool
     ensures { result ≡ digit b }
 {
-    match b {
-        b'0'..=b'9' => true,
-        _ => false,
-    }
+    b.is_ascii_digit()
 }
 
 // Whether the byte at a place of a value is permitted: by line, telegram type and packet letter.
-// Letters that follow each other in the alphabet, as C and D, stand in different arms, since one arm would test them as a range.
+// A match and no table of tests: it is the paper's table of packets. Line, type and letter stay arguments, as the definition takes them.
 #[tactic(auto, unfolding(crate::specs::Packets::permits))]
 pub(crate) fn permits_byte(line: u8, kind: u8, letter: u8, at: usize, b: u8) -> bool
     ensures { result ≡ permits line kind letter at b }
 {
     match letter {
-        b'L' | b'%' | b'H' | b'E' => is_digit(b),
-        b'S' | b'D' => is_digit(b),
-        b'C' | b'T' | b'R' => is_digit(b),
+        b'L' | b'%' | b'H' | b'E' | b'S' | b'D' | b'C' | b'T' | b'R' => is_digit(b),
         b'F' => in_channel(at, b),
         b'P' => in_position(at, b),
-        b'm' => match b {
-            b'S'..=b'T' => true,
-            _ => false,
-        },
-        b'U' => match b {
-            b'+' | b'-' => true,
-            _ => false,
-        },
-        b'N' => match b {
-            b'1'..=b'2' => true,
-            b'A' => true,
-            _ => false,
-        },
+        b'm' => matches!(b, b'S' | b'T'),
+        b'U' => matches!(b, b'+' | b'-'),
+        b'N' => matches!(b, b'1' | b'2' | b'A'),
         b'M' => in_mode(kind, at, b),
         b'V' => in_watch(kind, at, b),
-        b'W' => in_effect(b),
-        b'X' => in_effect(b),
-        b'Y' => match b {
-            b'0'..=b'9' => true,
-            b'A'..=b'V' => true,
-            _ => false,
-        },
-        b'Z' => match b {
-            b'0'..=b'7' => true,
-            _ => false,
-        },
+        b'W' | b'X' => in_effect(b),
+        b'Y' => matches!(b, b'0'..=b'9' | b'A'..=b'V'),
+        b'Z' => matches!(b, b'0'..=b'7'),
         b'B' => in_request(line, kind, b),
         b'A' => in_approval(line, b),
         _ => false,
@@ -60,6 +37,7 @@ pub(crate) fn permits_byte(line: u8, kind: u8, letter: u8, at: usize, b: u8) -> 
 }
 
 // F is the letter C, then digits.
+// This, in_position, in_mode and in_watch test the first byte and then the others: a function of two tests is no shorter than each.
 fn in_channel(at: usize, b: u8) -> bool
     ensures { result ≡ in_channel at b }
 {
@@ -71,16 +49,14 @@ fn in_position(at: usize, b: u8) -> bool
     ensures { result ≡ in_position at b }
 {
     if at == 0 {
-        match b {
-            b'0'..=b'7' => true,
-            _ => false,
-        }
+        matches!(b, b'0'..=b'7')
     } else {
         is_digit(b)
     }
 }
 
 // An operational form: A B C D, in telegram 1 also F.
+// No matches!, since F goes by the telegram.
 fn is_operational(kind: u8, b: u8) -> bool
     ensures { result ≡ operational kind b }
 {
@@ -107,12 +83,9 @@ fn in_watch(kind: u8, at: usize, b: u8) -> bool
     ensures { result ≡ in_watch kind at b }
 {
     if at == 0 {
-        return b == b':';
-    }
-    if b == b' ' {
-        true
+        b == b':'
     } else {
-        is_operational(kind, b)
+        b == b' ' || is_operational(kind, b)
     }
 }
 
@@ -120,10 +93,7 @@ fn in_watch(kind: u8, at: usize, b: u8) -> bool
 fn in_effect(b: u8) -> bool
     ensures { result ≡ in_effect b }
 {
-    match b {
-        b'F' | b'1' | b'6' => true,
-        _ => false,
-    }
+    matches!(b, b'F' | b'1' | b'6')
 }
 
 // B is in r the wanted type, in t any character of the set.

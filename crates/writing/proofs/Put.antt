@@ -3,7 +3,7 @@ use mathlib.Core.Path.{◌≡◌, refl, sym, ap, ◌∙◌}
 use mathlib.Core.List.{List, [], ◌∷◌, ◌++◌, append_assoc}
 use Prim.Native.Nat.{ℕ, suc, ◌+◌, ◌-◌, ◌≤◌, ◌<◌}
 use native.Mathlib.Omega.{arith}
-use lib.ListN.{length, take, drop, get_or, set, length-append}
+use lib.ListN.{length, take, drop, get_or, length-append}
 use lib.Seq.{drop-drop, take_at, length-take-le}
 use borrow.Rule.Slice.PartMut.{put_mid, mid_of, mid_len}
 use Rattle.laws.specs.Numerals.{numeral_on}
@@ -15,23 +15,6 @@ use Rattle.characters.proofs.Parts.{part-first}
 use Rattle.forms.proofs.Slots.{slots-step}
 use Rattle.reading.specs.Frame.{count_text, body_of, frame_of, head_text, tail_text}
 use Rattle.reading.specs.Contents.{data_of}
-
--- five bytes, and three
-pub five : (l : List ℕ) (a b c d e : ℕ) → length l ≡ 5 → set (set (set (set (set l 0 a) 1 b) 2 c) 3 d) 4 e ≡ a ∷ b ∷ c ∷ d ∷ e ∷ []
-five [] a b c d e h = let z : ⊥ = omega arith in absurd z
-five (x₁ ∷ []) a b c d e h = let z : ⊥ = omega arith in absurd z
-five (x₁ ∷ x₂ ∷ []) a b c d e h = let z : ⊥ = omega arith in absurd z
-five (x₁ ∷ x₂ ∷ x₃ ∷ []) a b c d e h = let z : ⊥ = omega arith in absurd z
-five (x₁ ∷ x₂ ∷ x₃ ∷ x₄ ∷ []) a b c d e h = let z : ⊥ = omega arith in absurd z
-five (x₁ ∷ x₂ ∷ x₃ ∷ x₄ ∷ x₅ ∷ []) a b c d e h = refl
-five (x₁ ∷ x₂ ∷ x₃ ∷ x₄ ∷ x₅ ∷ x₆ ∷ l) a b c d e h = let z : ⊥ = omega arith in absurd z
-
-pub three : (l : List ℕ) (a b c : ℕ) → length l ≡ 3 → set (set (set l 0 a) 1 b) 2 c ≡ a ∷ b ∷ c ∷ []
-three [] a b c h = let z : ⊥ = omega arith in absurd z
-three (x₁ ∷ []) a b c h = let z : ⊥ = omega arith in absurd z
-three (x₁ ∷ x₂ ∷ []) a b c h = let z : ⊥ = omega arith in absurd z
-three (x₁ ∷ x₂ ∷ x₃ ∷ []) a b c h = refl
-three (x₁ ∷ x₂ ∷ x₃ ∷ x₄ ∷ l) a b c h = let z : ⊥ = omega arith in absurd z
 
 -- the j-th of n packets
 module _ (ls ws vs : List ℕ) (n j : ℕ) (more : j < n) where

@@ -1,5 +1,6 @@
 -- The refusals of writing, one after the other, and what is written. Assumes nothing.
-use mathlib.Core.Path.{◌≡◌, refl}
+use Rattle.std.specs.Prelude.{None, Some}
+use mathlib.Core.Path.{◌≡◌, refl, sym, ◌∙◌}
 use mathlib.Core.Bool.{Bool, true, false, cond}
 use mathlib.Core.List.{List, ◌++◌}
 use Prim.Native.Nat.{ℕ, ◌+◌, ◌≤◌, ◌<◌}
@@ -10,11 +11,12 @@ use borrow.Author.Tests.{lt-ltb, le-ltb, le-leb, lt-leb}
 use Rattle.records.specs.Refusals.{no}
 use Rattle.laws.specs.Truth.{both}
 use Rattle.forms.specs.Lines.{is_line}
-use Rattle.forms.specs.Forms.{slots_of, width_of}
-use Rattle.records.specs.Records.{type_of, values_of}
-use Rattle.values.specs.Values.{row_of, permits_record, length_of}
+use Rattle.forms.specs.declared.rows.Form.{Form}
+use Rattle.forms.specs.Forms.{Looked, looked_of, form_of, slots_of, width_of}
+use Rattle.records.specs.Records.{type_of, letter_of, values_of}
+use Rattle.values.specs.Values.{row_of, permits_values, permits_record, length_of}
+use Rattle.values.proofs.Recorded.{record-looked, record-row}
 use Rattle.records.specs.declared.records.Record.{Record}
-use Rattle.forms.specs.declared.table.Looked.{Looked}
 use Rattle.records.specs.Answers.{written, refused, Write}
 use Rattle.reading.specs.Frame.{frame_of}
 use Rattle.reading.specs.Contents.{data_of}
@@ -45,29 +47,42 @@ pub no_line : (line : ℕ) (rec : Record) (number : ℕ) (out : List ℕ) → is
 unfolding writing_of
 no_line line rec number out h = rw h
 
-module _ (line : ℕ) (rec : Record) (number : ℕ) (out : List ℕ) (kind : ℕ) (looked : Looked)
-    (a : is_line line ≡ true) (e : kind ≡ type_of rec) (r : looked ≡ row_of line rec) where
-  same : (vs : List ℕ) (p : Bool) → vs ≡ values_of rec → permits_record line rec ≡ p → result line kind looked vs true p number out ≡ writing_of line rec number out
-  same vs p g h = let w = whole line rec number out in cc
+-- the calls of `write`: the line is one, and the row is looked up by the record's type and letter
+module _ (line : ℕ) (rec : Record) (number : ℕ) (out : List ℕ) {kind letter : ℕ} {lined : Bool}
+    (a : lined ≡ is_line line) (l : lined ≡ true) (e : kind ≡ type_of rec) (f : letter ≡ letter_of rec) where
+  same : (looked : Looked) (vs : List ℕ) (p : Bool) → looked ≡ form_of line kind letter → vs ≡ values_of rec → permits_record line rec ≡ p
+      → result line kind looked vs true p number out ≡ writing_of line rec number out
+  same looked vs p r g h =
+      let w = whole line rec number out in
+      let row = record-looked line rec kind letter looked e f r in
+      cc
 
-  pub not-sent : looked.found ≡ false → (refused (no 12 0), out) ≡ writing_of line rec number out
+  pub not-sent : looked_of None ≡ form_of line kind letter → (refused (no 12 0), out) ≡ writing_of line rec number out
   unfolding result
-  not-sent h = rw (← (same (values_of rec) (permits_record line rec) refl refl), h)
+  not-sent r = rw (← (same (looked_of None) (values_of rec) (permits_record line rec) r refl refl))
 
-  pub not-permitted : looked.found ≡ true → permits_record line rec ≡ false → (refused (no 13 0), out) ≡ writing_of line rec number out
-  unfolding result
-  not-permitted h p = rw (← (same (values_of rec) false refl p), h)
+  -- there is one, and the values are permitted or not
+  module _ {form : Form} {vs : List ℕ} {p : Bool} (r : looked_of (Some form) ≡ form_of line kind letter) (v : vs ≡ values_of rec)
+      (q : p ≡ permits_values line kind (slots_of form) vs) where
+    -- so is the record
+    permits : (b : Bool) → p ≡ b → permits_record line rec ≡ b
+    permits b t =
+        sym (record-row line rec (looked_of (Some form)) (record-looked line rec kind letter (looked_of (Some form)) e f r) kind vs e v refl) ∙ sym q ∙ t
 
-  module _ (h : looked.found ≡ true) (p : permits_record line rec ≡ true) where
-    pub no_number : 1 < number → (refused (no 13 0), out) ≡ writing_of line rec number out
+    pub not-permitted : p ≡ false → (refused (no 13 0), out) ≡ writing_of line rec number out
     unfolding result
-    no_number g = rw (← (same (values_of rec) true refl p), h, le-ltb number 2 g)
+    not-permitted t = rw (← (same (looked_of (Some form)) vs false r v (permits false t)))
 
-    pub no_room : number ≤ 1 → length out < 8 + width_of looked.form → (refused (no 14 0), out) ≡ writing_of line rec number out
-    unfolding result
-    no_room g q = rw (← (same (values_of rec) true refl p), h, lt-ltb number 2 (small g), lt-leb _ _ q)
+    module _ (t : p ≡ true) where
+      pub no_number : 1 < number → (refused (no 13 0), out) ≡ writing_of line rec number out
+      unfolding result
+      no_number g = rw (← (same (looked_of (Some form)) vs true r v (permits true t)), le-ltb number 2 g)
 
-    pub in-full : number ≤ 1 → 8 + width_of looked.form ≤ length out → (vs : List ℕ) → vs ≡ values_of rec
-        → (written (8 + width_of looked.form), frame_of kind number (data_of (slots_of looked.form) vs) ++ drop (8 + width_of looked.form) out) ≡ writing_of line rec number out
-    unfolding result
-    in-full g room vs q = rw (← (same vs true q p), h, lt-ltb number 2 (small g), le-leb _ _ room)
+      pub no_room : number ≤ 1 → length out < 8 + width_of form → (refused (no 14 0), out) ≡ writing_of line rec number out
+      unfolding result
+      no_room g h = rw (← (same (looked_of (Some form)) vs true r v (permits true t)), lt-ltb number 2 (small g), lt-leb _ _ h)
+
+      pub in-full : number ≤ 1 → 8 + width_of form ≤ length out
+          → (written (8 + width_of form), frame_of kind number (data_of (slots_of form) vs) ++ drop (8 + width_of form) out) ≡ writing_of line rec number out
+      unfolding result
+      in-full g h = rw (← (same (looked_of (Some form)) vs true r v (permits true t)), lt-ltb number 2 (small g), le-leb _ _ h)

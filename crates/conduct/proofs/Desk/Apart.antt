@@ -1,5 +1,7 @@
 -- The paper's numbers and values tell the desk's answers apart (rule G3). Assumes nothing.
+use Rattle.std.specs.Prelude.{Bool, true, false, Result, Ok, Err}
 use mathlib.Core.Path.{◌≡◌, refl, sym, ap, ◌∙◌}
+use Rattle.records.specs.declared.refusals.Refusal.{Refusal}
 use Rattle.desk.specs.Deciding.{What, request, poll, other, matter_of, Ruling, handle, ruling_of}
 use Rattle.desk.specs.Deciding as w
 use Rattle.desk.specs.declared.deciding.Matter as m
@@ -10,7 +12,6 @@ use Rattle.desk.specs.Answers.{Done, done, lost, done_of}
 use Rattle.desk.specs.Heard.{Told, silent, fault, repeat, handled, told_of}
 use Rattle.desk.specs.Answers as d
 use Rattle.desk.specs.Heard as t
-use Rattle.desk.specs.declared.answers.Outcome as o
 use Rattle.desk.specs.declared.heard.Heard as h
 use Rattle.conduct.specs.Desk.Apart.{OneRule, OneSource, OneOutcome, OneHeard}
 use Rattle.records.proofs.Apart.{back_of, refusal-back}
@@ -44,15 +45,15 @@ rule-back (r.TheVariants.Repeat n matter) = rw (matter-back matter)
 rule-back (r.TheVariants.Handle n matter) = rw (matter-back matter)
 
 -- of a call that hears nothing
-abbrev outcome_back : Done → o.Outcome
-outcome_back done = o.TheVariants.Done
-outcome_back lost = o.TheVariants.Lost
-outcome_back (d.refused x) = o.TheVariants.Refused (back_of x)
+abbrev outcome_back : Done → Result Bool Refusal
+outcome_back done = Ok false
+outcome_back lost = Ok true
+outcome_back (d.refused x) = Err (back_of x)
 
-outcome-back : (x : o.Outcome) → outcome_back (done_of x) ≡ x
-outcome-back o.TheVariants.Done = refl
-outcome-back o.TheVariants.Lost = refl
-outcome-back (o.TheVariants.Refused x) = ap o.TheVariants.Refused (refusal-back x)
+outcome-back : (x : Result Bool Refusal) → outcome_back (done_of x) ≡ x
+outcome-back (Ok false) = refl
+outcome-back (Ok true) = refl
+outcome-back (Err x) = ap Err (refusal-back x)
 
 -- of where an answer comes from
 abbrev source_back : Origin → s.Source
@@ -74,19 +75,19 @@ source-back s.TheVariants.NotMaster = refl
 source-back s.TheVariants.NothingSet = refl
 
 -- of a hearing
-abbrev heard_back : Told → h.Heard
-heard_back (t.refused x) = h.TheVariants.Refused (back_of x)
-heard_back (silent noted x) = h.TheVariants.Silent noted (back_of x)
-heard_back (fault noted value n) = h.TheVariants.Fault noted n
-heard_back (repeat n) = h.TheVariants.Repeat n
-heard_back (handled noted origin n) = h.TheVariants.Handled noted (source_back origin) n
+abbrev heard_back : Told → Result h.Heard Refusal
+heard_back (t.refused x) = Err (back_of x)
+heard_back (silent noted x) = Ok (h.TheVariants.Silent noted (back_of x))
+heard_back (fault noted value n) = Ok (h.TheVariants.Fault noted n)
+heard_back (repeat n) = Ok (h.TheVariants.Repeat n)
+heard_back (handled noted origin n) = Ok (h.TheVariants.Handled noted (source_back origin) n)
 
-heard-back : (x : h.Heard) → heard_back (told_of x) ≡ x
-heard-back (h.TheVariants.Refused x) = ap h.TheVariants.Refused (refusal-back x)
-heard-back (h.TheVariants.Silent noted x) = rw (refusal-back x)
-heard-back (h.TheVariants.Fault noted n) = refl
-heard-back (h.TheVariants.Repeat n) = refl
-heard-back (h.TheVariants.Handled noted source n) = rw (source-back source)
+heard-back : (x : Result h.Heard Refusal) → heard_back (told_of x) ≡ x
+heard-back (Err x) = ap Err (refusal-back x)
+heard-back (Ok (h.TheVariants.Silent noted x)) = rw (refusal-back x)
+heard-back (Ok (h.TheVariants.Fault noted n)) = refl
+heard-back (Ok (h.TheVariants.Repeat n)) = refl
+heard-back (Ok (h.TheVariants.Handled noted source n)) = rw (source-back source)
 
 pub one-rule : OneRule
 one-rule a b e = sym (rule-back a) ∙ ap rule_back e ∙ rule-back b

@@ -21,7 +21,7 @@ use Rattle.clock.specs.Counters.{is_number, number_in}
 use Rattle.desk.specs.Deciding.{Ruling, bad_frame}
 use Rattle.desk.specs.Deciding as r
 use Rattle.desk.proofs.Rulings.{bad_sum, bad-sum-byte, bad-low, when-refused}
-use Rattle.desk.proofs.Numbers.{ruling-number}
+use Rattle.desk.proofs.Numbers.{ruling_number}
 use Rattle.desk.proofs.Permitted.{fault-permitted}
 use Rattle.desk.specs.Heard.{fault}
 use Rattle.desk.specs.Panel.{loses_line}
@@ -55,7 +55,7 @@ module _ (d : Desk) (f : Fine d) (at : ℕ) (frame out : List ℕ) (room : longe
     sum-read : reading_of d.line (fault_answer d frame) ≡ accepted (Rejected (code "1")) (number_in (get_or frame 4 0))
     sum-read =
         written-reads d.line (Rejected (code "1")) (number_in (get_or frame 4 0)) (fault-permitted d.line (fits d f).lined)
-        (rw (← ruled) at (ruling-number (noted d at).line (noted d at).good (noted d at).last.0 frame))
+        (rw (← ruled) at (ruling_number (noted d at).line (noted d at).good (noted d at).last.0 frame))
 
 pub sum-answers : SumAnswers
 sum-answers d f at frame out room x k q n = sum_told d f at frame out room x k q n

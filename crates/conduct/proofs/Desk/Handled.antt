@@ -1,4 +1,5 @@
 -- What answers a good frame that is no repeat, row by row, and which answers are N with A (rules D8 to D13). Assumes nothing.
+use Rattle.std.specs.Prelude.{Option, None, Some}
 use mathlib.Core.Path.{◌≡◌, refl, sym, ap, ◌∙◌}
 use mathlib.Core.Bool.{Bool, true, false, cond, not}
 use mathlib.Core.List.{List, [], ◌∷◌}
@@ -29,8 +30,6 @@ use Rattle.desk.specs.Deciding as r
 use Rattle.desk.proofs.Rulings.{not-master, a-request, a-poll, another, good-handled, bad-contents, when-accepted, when-refused}
 use Rattle.desk.specs.Fitting.{may_reply, wanted_fits}
 use Rattle.desk.specs.Replying.{Origin, Reply, asked_of, polled_of}
-use Rattle.desk.specs.declared.replying.Wanted.{Wanted}
-use Rattle.desk.specs.declared.replying.Wanted.TheVariants.{None, Is}
 use Rattle.desk.specs.Heard.{handled}
 use Rattle.desk.specs.Panel.{loses_line, noted_of}
 use Rattle.desk.specs.Queue.{oldest, reply_to}
@@ -170,9 +169,9 @@ module _ (line : ℕ) (good : Bool) (last n : ℕ) (what : What) (frame : List �
 -- the row of what was heard
 module _ (d : Desk) (frame : List ℕ) where
   module _ (rec : Record) (n : ℕ) (q : reading_of d.line frame ≡ accepted rec n) where
-    asked-row : type_of rec ≡ code "r" → (w : Wanted) → d.requested ≡ w → ReplyRow d frame n (asked_of w).0 (asked_of w).1
+    asked-row : type_of rec ≡ code "r" → (w : Option Record) → d.requested ≡ w → ReplyRow d frame n (asked_of w).0 (asked_of w).1
     asked-row e None s = nothing_set q e s
-    asked-row e (Is set) s = requested q e s
+    asked-row e (Some set) s = requested q e s
 
     abbrev to_t : Reply
     to_t = polled_of d.line d.key d.queued (oldest d)

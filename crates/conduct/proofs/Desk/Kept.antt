@@ -1,4 +1,5 @@
 -- From the start, under any calls in any order with any inputs, the desk's state is in its ranges (rules E3, E10). Assumes nothing.
+use Rattle.std.specs.Prelude.{Option, None, Some}
 use mathlib.Core.Path.{◌≡◌, refl, ◌∙◌}
 use mathlib.Core.Bool.{Bool, true, false, cond}
 use mathlib.Core.List.{List, [], ◌∷◌}
@@ -18,8 +19,6 @@ use Rattle.characters.specs.Marks.{shortest, longest}
 use Rattle.desk.specs.Deciding.{What, contents, not_master, request, poll, other}
 use Rattle.desk.specs.Fitting.{may_reply, key_fits, wanted_fits}
 use Rattle.desk.specs.Replying.{asked_of, polled_of}
-use Rattle.desk.specs.declared.replying.Wanted.{Wanted}
-use Rattle.desk.specs.declared.replying.Wanted.TheVariants.{None, Is}
 use Rattle.desk.specs.Answers.{done, lost}
 use Rattle.desk.specs.Waiting.{waiting_fits, kept_fits}
 use Rattle.desk.specs.State.{numbers_fit, records_fit, in_ranges, fresh, start_of}
@@ -28,7 +27,7 @@ use Rattle.desk.specs.Clearing.{with_none_queued, with_none_set, clear_queue_of,
 use Rattle.desk.specs.Queue.{reply_to, popped, taken_by}
 use Rattle.desk.specs.Hearing.{with_stored, marked, restarted, faulted_of, repeated_of, handled_of, hear_of}
 use Rattle.desk.specs.declared.state.Desk.{Desk}
-use Rattle.desk.proofs.Ranges.{Fits, ranges-parts, parts-ranges, noted-ranges, kept-most}
+use Rattle.desk.proofs.Ranges.{Fits, ranges-parts, parts-ranges, noted_ranges, kept-most}
 use Rattle.desk.proofs.Answering.{answer-permitted}
 use Rattle.conduct.specs.Desk.Polls.{waiting}
 use Rattle.conduct.proofs.Desk.Waiting.{filled-behind, oldest-taken, every-behind, every-tail}
@@ -65,7 +64,7 @@ module _ (d : Desk) (f : Fine d) where
 
   pub noted-keeps : (lost : Bool) → Keeps d (noted_of d lost)
   unfolding noted_of
-  noted-keeps true = record { fine = record { ranged = noted-ranges d true f.ranged; stores = f.stores; holds = f.holds }; line = refl }
+  noted-keeps true = record { fine = record { ranged = noted_ranges d true f.ranged; stores = f.stores; holds = f.holds }; line = refl }
   noted-keeps false = record { fine = f; line = refl }
 
   -- a record that may reply, queued where there is a place
@@ -164,9 +163,9 @@ module _ (d : Desk) (f : Fine d) where
   replied-keeps not_master = stays
   replied-keeps request = asked d.requested
     where
-      asked : (w : Wanted) → Keeps d (taken_by d (asked_of w).1)
+      asked : (w : Option Record) → Keeps d (taken_by d (asked_of w).1)
       asked None = stays
-      asked (Is rec) = stays
+      asked (Some rec) = stays
   replied-keeps poll = on_test (eqb d.queued 0) (λ e. rw e stays) (λ e. rw e popped-keeps)
   replied-keeps (other rec) = stays
 

@@ -1,4 +1,5 @@
 -- Whatever calls are made, each record that was queued is given out once, in order, or was cleared, or still waits (rules D15, D17). Assumes nothing.
+use Rattle.std.specs.Prelude.{Option, None, Some}
 use mathlib.Core.Path.{◌≡◌, refl, sym, ap, ◌∙◌}
 use mathlib.Core.Bool.{Bool, true, false}
 use mathlib.Core.List.{List, [], ◌∷◌, ◌++◌, map, append-nil, append_assoc, map-append}
@@ -17,8 +18,6 @@ use Rattle.writing.proofs.Trips.{written-reads}
 use Rattle.desk.specs.Deciding.{What, request, poll, other}
 use Rattle.desk.specs.Deciding as r
 use Rattle.desk.specs.Replying.{queue, key, asked_of}
-use Rattle.desk.specs.declared.replying.Wanted.{Wanted}
-use Rattle.desk.specs.declared.replying.Wanted.TheVariants.{None, Is}
 use Rattle.records.specs.Refusals.{No}
 use Rattle.desk.specs.Answers.{Done, done, lost}
 use Rattle.desk.specs.State.{start_of}
@@ -88,10 +87,10 @@ module _ (d : Desk) (f : Fine d) where
   oldest-permitted q = reply-allowed d.line (oldest d) (oldest-replies d f.holds (fits d f) q)
 
   module _ (b : Bool) (at n : ℕ) (l : n < 2) (frame out : List ℕ) where
-    asked-balanced : (w : Wanted) → Balanced d (hears at frame out) (hearing (handled_of (noted_of d b) b at n (asked_of w) out))
+    asked-balanced : (w : Option Record) → Balanced d (hears at frame out) (hearing (handled_of (noted_of d b) b at n (asked_of w) out))
     unfolding handled_of
     asked-balanced None = noted-waits b
-    asked-balanced (Is rec) = noted-waits b
+    asked-balanced (Some rec) = noted-waits b
 
     handled-balanced : (what : What) → Balanced d (hears at frame out) (hearing (handled_of (noted_of d b) b at n (reply_to (noted_of d b) what) out))
     unfolding handled_of

@@ -1,4 +1,5 @@
 -- A handled t takes exactly the oldest queued record, and no other hearing takes one (rules D11, D13). Assumes nothing.
+use Rattle.std.specs.Prelude.{Option, None, Some}
 use mathlib.Core.Path.{◌≡◌, refl, sym, ap, ◌∙◌}
 use mathlib.Core.Bool.{Bool, true, false, cond}
 use mathlib.Core.List.{List, [], ◌∷◌}
@@ -21,8 +22,6 @@ use Rattle.characters.specs.Marks.{longest}
 use Rattle.desk.specs.Deciding.{Ruling, silent, fault, repeat, handle, What, contents, not_master, request, poll, other, matter_in}
 use Rattle.desk.proofs.Rulings.{a-poll, good-handled, when-accepted}
 use Rattle.desk.specs.Replying.{queue, key, asked_of, key_on, polled_of}
-use Rattle.desk.specs.declared.replying.Wanted.{Wanted}
-use Rattle.desk.specs.declared.replying.Wanted.TheVariants.{None, Is}
 use Rattle.desk.specs.Waiting.{blank, shifted}
 use Rattle.desk.specs.Panel.{loses_line, noted_of}
 use Rattle.desk.specs.Queue.{oldest, reply_to, taken_by}
@@ -79,9 +78,9 @@ reply-queue d (contents x) h = (refl, refl)
 reply-queue d not_master h = (refl, refl)
 reply-queue d request h = asked d.requested
   where
-    asked : (w : Wanted) → Same d (taken_by d (asked_of w).1)
+    asked : (w : Option Record) → Same d (taken_by d (asked_of w).1)
     asked None = (refl, refl)
-    asked (Is rec) = (refl, refl)
+    asked (Some rec) = (refl, refl)
 reply-queue d poll h = absurd (h refl)
 reply-queue d (other rec) h = (refl, refl)
 

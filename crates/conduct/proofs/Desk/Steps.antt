@@ -20,7 +20,7 @@ use Rattle.records.specs.Answers.{Fault, good, fails}
 use Rattle.characters.specs.Marks.{longest}
 use Rattle.desk.specs.Deciding.{What, Ruling, answers_with}
 use Rattle.desk.specs.Deciding as r
-use Rattle.desk.proofs.Numbers.{ruling-number}
+use Rattle.desk.proofs.Numbers.{ruling_number}
 use Rattle.desk.specs.Fitting.{may_reply, key_fits}
 use Rattle.desk.specs.Answers.{Done, done, lost}
 use Rattle.desk.specs.Heard.{Told, silent}
@@ -139,5 +139,5 @@ module _ (d : Desk) (h : in_ranges d ≡ true) where
   does (hears at frame out) =
       rw h
       (on_test (leb longest (length out))
-      (λ b. rw b (applies at frame out (ruling (noted d at) frame) (ruling-number (noted d at).line (noted d at).good (noted d at).last.0 frame)))
+      (λ b. rw b (applies at frame out (ruling (noted d at) frame) (ruling_number (noted d at).line (noted d at).good (noted d at).last.0 frame)))
       (λ b. rw b no_room))

@@ -1,4 +1,5 @@
 -- From the start, under any calls, a stored answer is the telegram of a permitted record that the slave sends on the line, with the last number taken (rules D8, D14). Assumes nothing.
+use Rattle.std.specs.Prelude.{Option, None, Some}
 use mathlib.Core.Path.{◌≡◌, refl, ap, ◌∙◌}
 use mathlib.Core.Bool.{Bool, true, false}
 use mathlib.Core.List.{List, [], ◌∷◌, ◌++◌}
@@ -24,8 +25,6 @@ use Rattle.characters.specs.Marks.{longest}
 use Rattle.desk.specs.Deciding.{What, contents, not_master, request, poll, other}
 use Rattle.desk.specs.Fitting.{may_reply, wanted_fits}
 use Rattle.desk.specs.Replying.{asked_of, polled_of}
-use Rattle.desk.specs.declared.replying.Wanted.{Wanted}
-use Rattle.desk.specs.declared.replying.Wanted.TheVariants.{None, Is}
 use Rattle.desk.specs.Heard.{Told}
 use Rattle.desk.specs.Heard as h
 use Rattle.desk.specs.State.{stored_of, start_of}
@@ -77,9 +76,9 @@ module _ (d : Desk) (f : Fine d) where
   reply-sent not_master = sends-n d.line (fits d f).lined
   reply-sent request = asked d.requested (fits d f).wanted
     where
-      asked : (w : Wanted) → wanted_fits d.line w ≡ true → by_slave d.line (type_of (asked_of w).0) ≡ true
+      asked : (w : Option Record) → wanted_fits d.line w ≡ true → by_slave d.line (type_of (asked_of w).0) ≡ true
       asked None h = sends-n d.line (fits d f).lined
-      asked (Is rec) h = sends-data d.line (fits d f).lined rec (unfold wanted_fits in h)
+      asked (Some rec) h = sends-data d.line (fits d f).lined rec (unfold wanted_fits in h)
   reply-sent poll = polled-sent
   reply-sent (other rec) = sends-a d.line (fits d f).lined
 

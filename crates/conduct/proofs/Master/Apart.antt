@@ -1,8 +1,10 @@
 -- The paper's numbers and values tell the master's answers apart (rule G3). Assumes nothing.
+use Rattle.std.specs.Prelude.{Result, Ok, Err}
 use mathlib.Core.Path.{◌≡◌, refl, sym, ap, ◌∙◌}
+use Rattle.records.specs.declared.refusals.Refusal.{Refusal}
 use Rattle.records.specs.Answers.{Answer, accepted, answer_of}
 use Rattle.records.specs.Answers as w
-use Rattle.records.specs.declared.answers.Reading as g
+use Rattle.records.specs.declared.answers.Numbered.{Numbered}
 use Rattle.master.specs.Answering.{Judged, failed, judged_of}
 use Rattle.master.specs.Answering as j
 use Rattle.master.specs.declared.answering.Verdict as v
@@ -16,13 +18,13 @@ use Rattle.conduct.specs.Master.Apart.{OneVerdict, OneAnswer}
 use Rattle.records.proofs.Apart.{back_of, refusal-back}
 
 -- the answer of what is told: of a reading
-abbrev reading_back : Answer → g.Reading
-reading_back (accepted rec number) = g.TheVariants.Accepted rec number
-reading_back (w.refused x) = g.TheVariants.Refused (back_of x)
+abbrev reading_back : Answer → Result Numbered Refusal
+reading_back (accepted rec number) = Ok (record { rec = rec; number = number })
+reading_back (w.refused x) = Err (back_of x)
 
-reading-back : (x : g.Reading) → reading_back (answer_of x) ≡ x
-reading-back (g.TheVariants.Accepted rec number) = refl
-reading-back (g.TheVariants.Refused x) = ap g.TheVariants.Refused (refusal-back x)
+reading-back : (x : Result Numbered Refusal) → reading_back (answer_of x) ≡ x
+reading-back (Ok read) = refl
+reading-back (Err x) = ap Err (refusal-back x)
 
 -- of what a heard frame is
 abbrev verdict_back : Judged → v.Verdict
@@ -73,23 +75,23 @@ reason-back (r.TheVariants.Refused x) = ap r.TheVariants.Refused (refusal-back x
 reason-back r.TheVariants.OtherNumber = refl
 
 -- of a call
-abbrev answer_back : Told → a.Answer
-answer_back (t.refused x) = a.TheVariants.Refused (back_of x)
-answer_back nothing = a.TheVariants.Nothing
-answer_back (sent which count bytes) = a.TheVariants.Sent (sending_back which) count bytes
-answer_back (answered rec count) = a.TheVariants.Answered rec count
-answer_back (other_kind reading count) = a.TheVariants.OtherKind (reading_back reading) count
-answer_back (given_up ground count) = a.TheVariants.GivenUp (cause_back ground) count
-answer_back (ignored why) = a.TheVariants.Ignored (reason_back why)
+abbrev answer_back : Told → Result a.Answer Refusal
+answer_back (t.refused x) = Err (back_of x)
+answer_back nothing = Ok a.TheVariants.Nothing
+answer_back (sent which count bytes) = Ok (a.TheVariants.Sent (sending_back which) count bytes)
+answer_back (answered rec count) = Ok (a.TheVariants.Answered rec count)
+answer_back (other_kind reading count) = Ok (a.TheVariants.OtherKind (reading_back reading) count)
+answer_back (given_up ground count) = Ok (a.TheVariants.GivenUp (cause_back ground) count)
+answer_back (ignored why) = Ok (a.TheVariants.Ignored (reason_back why))
 
-answer-back : (x : a.Answer) → answer_back (told_of x) ≡ x
-answer-back (a.TheVariants.Refused x) = ap a.TheVariants.Refused (refusal-back x)
-answer-back a.TheVariants.Nothing = refl
-answer-back (a.TheVariants.Sent sending count bytes) = rw (sending-back sending)
-answer-back (a.TheVariants.Answered rec count) = refl
-answer-back (a.TheVariants.OtherKind reading count) = rw (reading-back reading)
-answer-back (a.TheVariants.GivenUp cause count) = rw (cause-back cause)
-answer-back (a.TheVariants.Ignored why) = rw (reason-back why)
+answer-back : (x : Result a.Answer Refusal) → answer_back (told_of x) ≡ x
+answer-back (Err x) = ap Err (refusal-back x)
+answer-back (Ok a.TheVariants.Nothing) = refl
+answer-back (Ok (a.TheVariants.Sent sending count bytes)) = rw (sending-back sending)
+answer-back (Ok (a.TheVariants.Answered rec count)) = refl
+answer-back (Ok (a.TheVariants.OtherKind reading count)) = rw (reading-back reading)
+answer-back (Ok (a.TheVariants.GivenUp cause count)) = rw (cause-back cause)
+answer-back (Ok (a.TheVariants.Ignored why)) = rw (reason-back why)
 
 pub one-verdict : OneVerdict
 one-verdict x y e = sym (verdict-back x) ∙ ap verdict_back e ∙ verdict-back y

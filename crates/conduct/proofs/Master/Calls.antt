@@ -26,8 +26,8 @@ use Rattle.master.specs.Answers.{Which, again, poll, Ground, silence, rejected}
 use Rattle.master.specs.State.{is_free, sendable, in_ranges, call_fault, with_line, answered_state, with_operation, given_up_state}
 use Rattle.master.specs.Sending.{Behind, t0_limit, t2_limit, unless_refused, sending_of, failed_of, offer_fault, offer_of, polling_of, waiting_of, tick_of}
 use Rattle.master.specs.Hearing.{settled_of, judged, hear_of}
-use Rattle.master.proofs.Ranges.{passed, lined, sendable-both, poll-sendable}
-use Rattle.master.proofs.Sends.{offer-passed}
+use Rattle.master.proofs.Ranges.{passed, lined, sendable-both, poll_sendable}
+use Rattle.master.proofs.Sends.{offer_passed}
 use Rattle.conduct.specs.Master.Calls.{Call, offers, ticks, hears, call_time, output_of, after, FirstSending, offered, polled, line_after}
 use Rattle.records.specs.Answers as w
 use Rattle.master.specs.Answers as t
@@ -163,12 +163,12 @@ module _ (m : Master) (h : in_ranges m ≡ true) where
       checks (offers at rec out) _ (λ r.
       guard (Does m (offers at rec out)) m out (sending_of t.offered m rec 1 at out) (offer_fault m rec)
       (λ x e. stays (t.Told.refused x) (barred (offer-number m rec x e)))
-      (λ e. let o = offer-passed m rec (sym e) in begins t.offered rec offered o.0 (sendable-both m.line rec o.1.0 o.1.1) r))
+      (λ e. let o = offer_passed m rec (sym e) in begins t.offered rec offered o.0 (sendable-both m.line rec o.1.0 o.1.1) r))
   does (ticks at out) =
       checks (ticks at out) _ (λ r.
       split (Does m (ticks at out)) (is_free m)
       (λ f. split (Does m (ticks at out)) (run_out at m.t0 (t0_limit m))
-      (λ e. begins poll (poll_of m.line) polled f (poll-sendable m.line (lined m h)) r)
+      (λ e. begins poll (poll_of m.line) polled f (poll_sendable m.line (lined m h)) r)
       (λ e. stays t.nothing idle))
       (λ f. split (Does m (ticks at out)) (run_out at m.t2 t2_limit)
       (λ e. fails (ticks at out) silence m.good f r)

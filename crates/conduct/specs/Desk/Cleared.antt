@@ -1,12 +1,11 @@
 -- What clearing leaves: nothing waits, or nothing is set, and all else is as it was; a repeat is answered with the same bytes
 -- (rules D17, D18, D7). Assumes nothing.
-use Rattle.std.specs.Prelude.{◌≡◌, List, [], ℕ, ◌≤◌, length}
+use Rattle.std.specs.Prelude.{◌≡◌, List, [], ℕ, ◌≤◌, length, None}
 use Rattle.characters.specs.Marks.{longest}
 use Rattle.desk.specs.Answers.{Done, done}
 use Rattle.desk.specs.Deciding.{What, repeat}
 use Rattle.desk.specs.Clearing.{clear_queue_of, clear_set_of}
 use Rattle.desk.specs.Hearing.{Hearing, ruling, hear_of}
-use Rattle.desk.specs.declared.replying.Wanted.TheVariants.{None}
 use Rattle.desk.specs.declared.state.Desk.{Desk}
 use Rattle.conduct.specs.Desk.Calls.{Fine, noted}
 use Rattle.conduct.specs.Desk.Polls.{waiting, Same}

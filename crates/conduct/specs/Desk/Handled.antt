@@ -1,5 +1,5 @@
 -- What answers a good frame that is no repeat, row by row, and which answers are N with A (rules D8 to D13). Assumes nothing.
-use Rattle.std.specs.Prelude.{◌≡◌, Bool, true, false, List, ℕ, ◌≤◌, length, get_or, take}
+use Rattle.std.specs.Prelude.{◌≡◌, Bool, true, false, List, ℕ, ◌≤◌, length, get_or, take, None, Some}
 use Prim.Native.Char.{code}
 use Rattle.characters.specs.Marks.{longest}
 use Rattle.forms.specs.Forms.{by_master}
@@ -15,7 +15,6 @@ use Rattle.clock.specs.Counters.{number_in}
 use Rattle.desk.specs.Deciding.{repeats}
 use Rattle.desk.specs.Replying.{Origin, key_on}
 use Rattle.desk.specs.Replying as o
-use Rattle.desk.specs.declared.replying.Wanted.TheVariants.{None, Is}
 use Rattle.desk.specs.Heard.{handled}
 use Rattle.desk.specs.Panel.{loses_line}
 use Rattle.desk.specs.Queue.{oldest}
@@ -33,7 +32,7 @@ pub data ReplyRow (d : Desk) (frame : List ℕ) : ℕ → Record → Origin → 
   not_master : {rec : Record} {n : ℕ} → reading_of d.line frame ≡ accepted rec n → by_master d.line (type_of rec) ≡ false
       → ReplyRow d frame n (Rejected (code "A")) (o.not_master (code "A"))
   -- r: the record set for it,
-  requested : {rec set : Record} {n : ℕ} → reading_of d.line frame ≡ accepted rec n → type_of rec ≡ code "r" → d.requested ≡ Is set → ReplyRow d frame n set o.requested
+  requested : {rec set : Record} {n : ℕ} → reading_of d.line frame ≡ accepted rec n → type_of rec ≡ code "r" → d.requested ≡ Some set → ReplyRow d frame n set o.requested
   -- else N with A
   nothing_set : {rec : Record} {n : ℕ} → reading_of d.line frame ≡ accepted rec n → type_of rec ≡ code "r" → d.requested ≡ None
       → ReplyRow d frame n (Rejected (code "A")) (o.nothing_set (code "A"))

@@ -1,11 +1,10 @@
 -- The results of reading, writing, gathering and searching, as the header's tables say them (include/in656.h). Assumes nothing.
 use Rattle.std.specs.Prelude.{ℕ, ◌-◌}
+use Rattle.cutting.specs.Search.{Span, Found, Nothing}
 use Rattle.records.specs.Answers.{Answer, accepted, Outcome, written}
 use Rattle.records.specs.Answers as a
 use Rattle.cutting.specs.Gather.{Cut, nothing, telegram}
 use Rattle.cutting.specs.Gather as g
-use Rattle.cutting.specs.declared.search.Span.{Span}
-use Rattle.cutting.specs.declared.search.Span.TheVariants.{Found, Nothing}
 use Rattle.in656.specs.declared.results.result.In656Result.{In656Result}
 use Rattle.in656.specs.Results.Result.{zeros, saying, refusing, with_place, with_written, with_number, with_record}
 

@@ -11,16 +11,16 @@ use clock::counters::number_in;
 use desk::heard::Heard;
 use master::answers::{Answer, Reason};
 use reading::reading::read;
-use records::answers::Reading;
+use records::refusals::Refusal;
 
 // The refusal that a frame reads as on a line.
+// line and frame stay apart here and below: read takes them so, and a struct of both would be opened before each call.
 fn with_reading(r: In656Result, line: u8, frame: &[u8]) -> In656Result
     ensures { result ≡ with_reading r (reading_of line frame.now) }
 {
-    let reading = read(line, frame);
-    match reading {
-        Reading::Accepted(_, _) => r,
-        Reading::Refused(refusal) => r.with_contents(refusal),
+    match read(line, frame) {
+        Ok(_) => r,
+        Err(refusal) => r.with_contents(refusal),
     }
 }
 
@@ -32,15 +32,20 @@ fn with_number_of(r: In656Result, frame: &[u8]) -> In656Result
 }
 
 // A hearing of the desk.
-pub(crate) fn desk_frame(r: In656Result, answer: Heard, line: u8, frame: &[u8]) -> In656Result
+pub(crate) fn desk_frame(
+    r: In656Result,
+    answer: Result<Heard, Refusal>,
+    line: u8,
+    frame: &[u8],
+) -> In656Result
     ensures { result ≡ desk_frame (d.told_of answer) line frame.now r }
 {
     match answer {
-        Heard::Refused(_) => r,
-        Heard::Silent(_, _) => r,
-        Heard::Fault(_, _) => with_number_of(with_reading(r, line, frame), frame),
-        Heard::Repeat(_) => with_number_of(with_reading(r, line, frame), frame),
-        Heard::Handled(_, _, _) => with_number_of(r, frame),
+        Err(_) | Ok(Heard::Silent(_, _)) => r,
+        Ok(Heard::Fault(_, _) | Heard::Repeat(_)) => {
+            with_number_of(with_reading(r, line, frame), frame)
+        }
+        Ok(Heard::Handled(_, _, _)) => with_number_of(r, frame),
     }
 }
 
@@ -49,19 +54,22 @@ fn ignored_frame(r: In656Result, why: Reason, line: u8, frame: &[u8]) -> In656Re
     ensures { result ≡ ignored_frame (m.why_of why) line frame.now r }
 {
     match why {
-        Reason::Free => with_reading(r, line, frame),
-        Reason::RunOut => with_reading(r, line, frame),
+        Reason::Free | Reason::RunOut | Reason::OtherNumber => with_reading(r, line, frame),
         Reason::Refused(_) => r,
-        Reason::OtherNumber => with_reading(r, line, frame),
     }
 }
 
 // A hearing of the master.
-pub(crate) fn master_frame(r: In656Result, answer: Answer, line: u8, frame: &[u8]) -> In656Result
+pub(crate) fn master_frame(
+    r: In656Result,
+    answer: Result<Answer, Refusal>,
+    line: u8,
+    frame: &[u8],
+) -> In656Result
     ensures { result ≡ master_frame (m.told_of answer) line frame.now r }
 {
     match answer {
-        Answer::Ignored(why) => ignored_frame(r, why, line, frame),
+        Ok(Answer::Ignored(why)) => ignored_frame(r, why, line, frame),
         _ => r,
     }
 }

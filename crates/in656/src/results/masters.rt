@@ -7,8 +7,9 @@ ghost use Rattle.in656.specs.Results.Masters.{sending_detail, cause_detail, igno
 use crate::results::result::{In656Result, refuse, say};
 use master::answers::{Answer, Cause, Reason, Sending};
 use records::answers::Reading;
+use records::refusals::Refusal;
 
-// Outcome.
+// Outcome. Outcomes and details are numbers of the C interface (include/in656.h).
 pub const NOTHING: u32 = 1;
 
 pub const SENT: u32 = 2;
@@ -31,6 +32,7 @@ pub const IGNORED_CONTENTS: u32 = 3;
 pub const IGNORED_OTHER_NUMBER: u32 = 4;
 
 // Detail of a sending.
+// No From: the sending is a type of another crate, and the numbers are the header's.
 fn sending_detail(sending: Sending) -> u32
     ensures { result ≡ sending_detail (which_of sending) }
 {
@@ -42,6 +44,7 @@ fn sending_detail(sending: Sending) -> u32
 }
 
 // Detail of a giving up.
+// No From: the cause is a type of another crate, and the numbers are the header's.
 fn cause_detail(cause: Cause) -> u32
     ensures { result ≡ cause_detail (ground_of cause) }
 {
@@ -52,60 +55,53 @@ fn cause_detail(cause: Cause) -> u32
 }
 
 // An ignored frame, with why.
-fn of_reason(why: Reason) -> In656Result
-    ensures { result ≡ ignored_result (why_of why) }
-{
-    match why {
-        Reason::Free => say(IGNORED, IGNORED_FREE),
-        Reason::RunOut => say(IGNORED, IGNORED_RUN_OUT),
-        Reason::Refused(refusal) => {
-            let r = say(IGNORED, IGNORED_CONTENTS);
-            r.with_contents(refusal)
+impl From<Reason> for In656Result {
+    ghost from_gives = { λ why r. r ≡ ignored_result (why_of why) };
+
+    fn from(why: Reason) -> In656Result {
+        match why {
+            Reason::Free => say(IGNORED, IGNORED_FREE),
+            Reason::RunOut => say(IGNORED, IGNORED_RUN_OUT),
+            Reason::Refused(refusal) => say(IGNORED, IGNORED_CONTENTS).with_contents(refusal),
+            Reason::OtherNumber => say(IGNORED, IGNORED_OTHER_NUMBER),
         }
-        Reason::OtherNumber => say(IGNORED, IGNORED_OTHER_NUMBER),
     }
 }
 
-// An answer of another kind.
+// An answer of another kind. It is no From, since a reading alone has another result.
 fn of_other(reading: Reading) -> In656Result
     ensures { result ≡ other_result (answer_of reading) }
 {
     let r = say(OTHER_KIND, 0);
     match reading {
-        Reading::Accepted(_, _) => r.with_record(),
-        Reading::Refused(refusal) => r.with_contents(refusal),
+        Ok(_) => r.with_record(),
+        Err(refusal) => r.with_contents(refusal),
     }
 }
 
 // What a call did.
-pub fn of_answer(answer: Answer) -> In656Result
-    ensures { result ≡ told_result (told_of answer) }
-{
-    match answer {
-        Answer::Refused(refusal) => refuse(refusal),
-        Answer::Nothing => say(NOTHING, 0),
-        Answer::Sent {
-            sending,
-            count,
-            bytes,
-        } => {
-            let r = say(SENT, sending_detail(sending));
-            let w = r.with_written(bytes);
-            w.with_count(count)
+impl From<Result<Answer, Refusal>> for In656Result {
+    ghost from_gives = { λ answer r. r ≡ told_result (told_of answer) };
+
+    fn from(answer: Result<Answer, Refusal>) -> In656Result {
+        match answer {
+            Err(refusal) => refuse(refusal),
+            Ok(Answer::Nothing) => say(NOTHING, 0),
+            Ok(
+                Answer::Sent {
+                    sending,
+                    count,
+                    bytes,
+                },
+            ) => say(SENT, sending_detail(sending))
+                .with_written(bytes)
+                .with_count(count),
+            Ok(Answer::Answered { count, .. }) => say(ANSWERED, 0).with_record().with_count(count),
+            Ok(Answer::OtherKind { reading, count }) => of_other(reading).with_count(count),
+            Ok(Answer::GivenUp { cause, count }) => {
+                say(GIVEN_UP, cause_detail(cause)).with_count(count)
+            }
+            Ok(Answer::Ignored(why)) => In656Result::from(why),
         }
-        Answer::Answered { rec: _, count } => {
-            let r = say(ANSWERED, 0);
-            let w = r.with_record();
-            w.with_count(count)
-        }
-        Answer::OtherKind { reading, count } => {
-            let r = of_other(reading);
-            r.with_count(count)
-        }
-        Answer::GivenUp { cause, count } => {
-            let r = say(GIVEN_UP, cause_detail(cause));
-            r.with_count(count)
-        }
-        Answer::Ignored(why) => of_reason(why),
     }
 }

@@ -1,70 +1,66 @@
 // The results of reading, writing, gathering and searching.
 ghost use Rattle.std.specs.Prelude.{◌≡◌};
 ghost use Rattle.records.specs.Answers.{answer_of, outcome_of};
+ghost use Rattle.cutting.specs.Search.{found_of};
 ghost use Rattle.cutting.specs.Gather.{gathered_of};
 ghost use Rattle.in656.specs.Results.Telegrams.{read_result, write_result, cut_result, span_result};
 
 use crate::results::result::{In656Result, done, refuse, say};
-use characters::slices::less;
 use cutting::gather::Gathered;
 use cutting::search::Span;
-use records::answers::{Reading, Writing};
+use records::answers::{Numbered, Reading};
+use records::refusals::Refusal;
 
-// Outcome of a gathered item and of a search: there is a telegram.
+// Outcome of a gathered item and of a search: there is a telegram. Its number is the C interface's (include/in656.h).
 pub const TELEGRAM: u32 = 1;
 
 // A reading.
-pub fn of_reading(reading: Reading) -> In656Result
-    ensures { result ≡ read_result (answer_of reading) }
-{
-    match reading {
-        Reading::Accepted(_, number) => {
-            let r = done();
-            let numbered = r.with_number(number);
-            numbered.with_record()
+impl From<Reading> for In656Result {
+    ghost from_gives = { λ reading r. r ≡ read_result (answer_of reading) };
+
+    fn from(reading: Reading) -> In656Result {
+        match reading {
+            Ok(Numbered { number, .. }) => done().with_number(number).with_record(),
+            Err(refusal) => refuse(refusal),
         }
-        Reading::Refused(refusal) => refuse(refusal),
     }
 }
 
-// A writing.
-pub fn of_writing(writing: Writing) -> In656Result
-    ensures { result ≡ write_result (outcome_of writing) }
-{
-    match writing {
-        Writing::Written(n) => {
-            let r = done();
-            r.with_written(n)
+// A writing: how many bytes were written.
+impl From<Result<usize, Refusal>> for In656Result {
+    ghost from_gives = { λ writing r. r ≡ write_result (outcome_of writing) };
+
+    fn from(writing: Result<usize, Refusal>) -> In656Result {
+        match writing {
+            Ok(n) => done().with_written(n),
+            Err(refusal) => refuse(refusal),
         }
-        Writing::Refused(refusal) => refuse(refusal),
     }
 }
 
 // A gathered item.
-pub fn of_gathered(gathered: Gathered) -> In656Result
-    ensures { result ≡ cut_result (gathered_of gathered) }
-{
-    match gathered {
-        Gathered::Nothing => done(),
-        Gathered::Telegram(n) => {
-            let r = say(TELEGRAM, 0);
-            r.with_written(n)
+impl From<Gathered> for In656Result {
+    ghost from_gives = { λ gathered r. r ≡ cut_result (gathered_of gathered) };
+
+    fn from(gathered: Gathered) -> In656Result {
+        match gathered {
+            Ok(None) => done(),
+            Ok(Some(n)) => say(TELEGRAM, 0).with_written(n),
+            Err(refusal) => refuse(refusal),
         }
-        Gathered::Refused(refusal) => refuse(refusal),
     }
 }
 
 // A search.
-pub fn of_span(span: Span) -> In656Result
-    ensures { result ≡ span_result span }
-{
-    match span {
-        Span::Found { start, end } => {
-            let r = say(TELEGRAM, 0);
-            let mut found = r.with_written(less(end, start));
-            found.place = start as u64;
-            found
+impl From<Option<Span>> for In656Result {
+    ghost from_gives = { λ span r. r ≡ span_result (found_of span) };
+
+    fn from(span: Option<Span>) -> In656Result {
+        match span {
+            Some(Span { start, end }) => say(TELEGRAM, 0)
+                .with_written(end.saturating_sub(start))
+                .with_place(start),
+            None => done(),
         }
-        Span::Nothing => done(),
     }
 }

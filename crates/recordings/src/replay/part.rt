@@ -1,21 +1,26 @@
 // The rows of a slice's records, as many as there is room for.
-ghost use Rattle.std.specs.Prelude.{◌≡◌, ◌≤◌, length};
+// put_ functions and no Display, as printing.rt says. captures::part walks alike over telegrams, but a record may also wait for bytes, or end the replay.
+ghost use Rattle.std.specs.Prelude.{◌≡◌, ◌==◌, ◌≤◌, length};
+ghost use Rattle.records.specs.Refusals.{refusal_of};
 ghost use Rattle.text.specs.Putting.{puts};
 ghost use Rattle.recordings.specs.Replay.Texts.{row_room, refused_text};
 ghost use Rattle.recordings.specs.Replay.Part.{goes_on, put, refused_put, next_put, part_of};
 ghost use Rattle.recordings.specs.declared.replay.part.Stop.TheVariants.{Goes};
 
+use crate::replay::printing::Opening;
 use crate::replay::rows::{Rowed, put_row};
+use crate::replay::state::Replayer;
 use desk::state::Desk;
-use logs::reader::{Next, bytes_of, next_record};
-use records::refusals::number_of;
+use logs::reader::{bytes_of, next_record};
+use records::refusals::{Refusal, number_of};
 use text::items::put_no;
 use text::putting::put_byte;
 
 // Room for any row.
 pub const ROW_ROOM: usize = 1024;
 
-// A row is put; or there is no room for one; or what follows may change what stands there; or the replay is over.
+// A row is put; or there is no room for one; or what follows may change what stands there; or the replay is over. No Result: a replay that stops has its place and
+// rows all the same.
 #[derive(Clone, Copy)]
 pub enum Stop {
     Goes,
@@ -25,6 +30,7 @@ pub enum Stop {
 }
 
 // The desk behind a record, where the next begins, how many bytes its row has, and how it goes on.
+// No scripts::ends::Printed: it says also where the next record begins and how it goes on.
 #[derive(Clone, Copy)]
 pub struct Put {
     pub desk: Desk,
@@ -36,15 +42,11 @@ pub struct Put {
 fn goes(stop: Stop) -> bool
     ensures { result ≡ goes_on stop }
 {
-    match stop {
-        Stop::Goes => true,
-        Stop::Full => false,
-        Stop::Waits => false,
-        Stop::Over => false,
-    }
+    matches!(stop, Stop::Goes)
 }
 
 // The last row, of a refusal.
+// A number and an offset, and no Refusal: the offset counts from the log's first byte, a Refusal's place from the slice's.
 pub(crate) fn put_refused(out: &mut [u8], number: u8, offset: u64) -> usize
     ensures { (result, out.new) ≡ puts (refused_text number offset) 0 out.old }
 {
@@ -52,12 +54,19 @@ pub(crate) fn put_refused(out: &mut [u8], number: u8, offset: u64) -> usize
     put_byte(out, a, b'\n')
 }
 
-// A record that is refused: 20 waits for bytes that may follow, any other refusal ends the replay.
-fn refused(desk: Desk, number: u8, offset: u64, from: usize, out: &mut [u8]) -> Put
-    requires { row_room ≤ length out.old }
-    ensures { ((result, out.new) ≡ refused_put desk number offset from out.old) × (result.length ≤ row_room) }
+// Whether a refusal is 20.
+fn is_cut_off(refusal: Refusal) -> bool
+    ensures { result ≡ ((refusal_of refusal).number == 20) }
 {
-    if number == 20 {
+    matches!(refusal, Refusal::CutOff(_))
+}
+
+// A record that is refused: 20 waits for bytes that may follow, any other refusal ends the replay.
+fn refused(desk: Desk, refusal: Refusal, offset: u64, from: usize, out: &mut [u8]) -> Put
+    requires { row_room ≤ length out.old }
+    ensures { ((result, out.new) ≡ refused_put desk (refusal_of refusal).number offset from out.old) × (result.length ≤ row_room) }
+{
+    if is_cut_off(refusal) {
         return Put {
             desk,
             end: from,
@@ -65,7 +74,7 @@ fn refused(desk: Desk, number: u8, offset: u64, from: usize, out: &mut [u8]) -> 
             stop: Stop::Waits,
         };
     }
-    let length = put_refused(out, number, offset);
+    let length = put_refused(out, number_of(refusal), offset);
     Put {
         desk,
         end: from,
@@ -78,9 +87,8 @@ fn refused(desk: Desk, number: u8, offset: u64, from: usize, out: &mut [u8]) -> 
 fn rowed(rowed: Rowed, end: usize) -> Put
     ensures { result ≡ put rowed.desk end rowed.length Goes }
 {
-    let desk = rowed.desk;
     Put {
-        desk,
+        desk: rowed.desk,
         end,
         length: rowed.length,
         stop: Stop::Goes,
@@ -94,22 +102,22 @@ fn put_next(desk: Desk, ordinal: u64, offset: u64, s: &[u8], from: usize, out: &
 {
     let next = next_record(s, from);
     match next {
-        Next::Record {
-            mark,
-            time,
-            start: _,
-            end,
-        } => {
-            let row = put_row(desk, mark, ordinal, offset, time, bytes_of(s, next), out);
-            rowed(row, end)
+        Ok(Some(entry)) => {
+            let opening = Opening {
+                ordinal,
+                offset,
+                time: entry.time,
+            };
+            let row = put_row(desk, entry.mark, opening, bytes_of(s, next), out);
+            rowed(row, entry.end)
         }
-        Next::End => Put {
+        Ok(None) => Put {
             desk,
             end: from,
             length: 0,
             stop: Stop::Waits,
         },
-        Next::Refused(refusal) => refused(desk, number_of(refusal), offset, from, out),
+        Err(refusal) => refused(desk, refusal, offset, from, out),
     }
 }
 
@@ -123,38 +131,39 @@ pub struct Replayed {
     pub stop: Stop,
 }
 
-// The rows of the records of s, whose first byte has an offset of its own.
-pub(crate) fn replay_part(desk: Desk, ordinal: u64, base: u64, s: &[u8], out: &mut [u8]) -> Replayed
-    ensures { (result, out.new) ≡ part_of desk ordinal base s.now out.old }
+// The rows of the records of s, whose first byte has the offset of the state.
+pub(crate) fn replay_part(replayer: Replayer, s: &[u8], out: &mut [u8]) -> Replayed
+    ensures { (result, out.new) ≡ part_of replayer.desk replayer.ordinal replayer.base s.now out.old }
 {
-    let mut desk = desk;
-    let mut count = ordinal;
-    let mut next: usize = 0;
-    let mut filled: usize = 0;
-    while ROW_ROOM <= out.len() - filled {
-        let offset = std::num::wrapping_add_u64(base, next as u64);
-        let end = filled + ROW_ROOM;
-        let put = put_next(desk, count, offset, s, next, &mut out[filled..end]);
-        filled = filled + put.length;
-        let stop = put.stop;
-        if !goes(stop) {
+    let mut at = Replayed {
+        desk: replayer.desk,
+        ordinal: replayer.ordinal,
+        next: 0,
+        filled: 0,
+        stop: Stop::Full,
+    };
+    // No `for`: each record begins where the one before ends, and the output's room decides too.
+    while ROW_ROOM <= out.len() - at.filled {
+        let offset = std::num::wrapping_add_u64(replayer.base, at.next as u64);
+        let end = at.filled + ROW_ROOM;
+        let put = put_next(
+            at.desk,
+            at.ordinal,
+            offset,
+            s,
+            at.next,
+            &mut out[at.filled..end],
+        );
+        at.filled = at.filled + put.length;
+        if !goes(put.stop) {
             return Replayed {
-                desk,
-                ordinal: count,
-                next,
-                filled,
-                stop,
+                stop: put.stop,
+                ..at
             };
         }
-        next = put.end;
-        count = std::num::wrapping_add_u64(count, 1);
-        desk = put.desk;
+        at.desk = put.desk;
+        at.next = put.end;
+        at.ordinal = std::num::wrapping_add_u64(at.ordinal, 1);
     }
-    Replayed {
-        desk,
-        ordinal: count,
-        next,
-        filled,
-        stop: Stop::Full,
-    }
+    at
 }

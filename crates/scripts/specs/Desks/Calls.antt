@@ -57,10 +57,12 @@ well_numbered c.TheVariants.Unknown row = true
 unfoldable pub named_by : Call → List ℕ → Call
 named_by call row = cond (well_numbered call row) call c.TheVariants.Unknown
 
+-- the numbers of a row's words among those of the calls and of the fields
+abbrev pub call_word : List ℕ → ℕ
+call_word row = word_place (codes "start tick queue set key hear alter show clear_queue clear_set due") 11 (word_of 1 row)
+
+abbrev pub field_word : List ℕ → ℕ
+field_word row = word_place (codes "line good last kept queued key") 6 (word_of 2 row)
+
 unfoldable pub call_of : List ℕ → Call
-call_of row =
-    named_by
-    (call_numbered
-    (word_place (codes "start tick queue set key hear alter show clear_queue clear_set due") 11 (word_of 1 row))
-    (word_place (codes "line good last kept queued key") 6 (word_of 2 row)))
-    row
+call_of row = named_by (call_numbered (call_word row) (field_word row)) row

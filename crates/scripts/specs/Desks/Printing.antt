@@ -1,7 +1,7 @@
 -- What a row of the desk prints (docs/SCENES.md). Assumes nothing.
-use Rattle.std.specs.Prelude.{Bool, List, [], ◌∷◌, ◌++◌, ℕ, zero, suc}
+use Rattle.std.specs.Prelude.{Bool, List, [], ◌∷◌, ◌++◌, ℕ, zero, suc, Option, None, Some}
 use Rattle.laws.specs.Text.{codes}
-use Rattle.desk.specs.declared.replying.Wanted as w
+use Rattle.records.specs.declared.records.Record.{Record}
 use Rattle.desk.specs.declared.waiting.Waiting.{Waiting}
 use Rattle.desk.specs.declared.state.Desk.{Desk}
 use Rattle.desk.specs.Answers.{Done}
@@ -40,9 +40,9 @@ starts_text line t1 key stored kept = number_text (codes "line ") line ++ (numbe
 unfoldable pub set_text : List ℕ → List ℕ
 set_text said = codes ", set " ++ said
 
-abbrev pub wanted_text : w.Wanted → List ℕ
-wanted_text w.TheVariants.None = []
-wanted_text (w.TheVariants.Is rec) = set_text (record_text rec)
+abbrev pub wanted_text : Option Record → List ℕ
+wanted_text None = []
+wanted_text (Some rec) = set_text (record_text rec)
 
 -- a record that waits
 abbrev pub waiting_text : Waiting → List ℕ

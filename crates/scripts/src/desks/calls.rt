@@ -1,11 +1,12 @@
 // Which call a row of the desk names.
 ghost use Rattle.std.specs.Prelude.{◌≡◌};
-ghost use Rattle.scripts.specs.Desks.Calls.{alter_numbered, call_numbered, quiet_numbered, well_numbered, call_of};
+ghost use Rattle.scripts.specs.Desks.Calls.{alter_numbered, call_numbered, quiet_numbered, well_numbered, call_word, field_word, call_of};
 
 use crate::meanings::named;
 use crate::numbers::are_numbers;
 
-// The calls that hear nothing.
+// The calls that hear nothing. A row's word chooses among the cases of this and of Field and Call, which the specs name too:
+// a function in the place of each case would be handed out by call_of, and the project allows no such function.
 #[derive(Clone, Copy)]
 pub enum Quiet {
     Start,
@@ -28,6 +29,7 @@ pub enum Field {
     Key,
 }
 
+// Unknown is a case beside the others, and not None: such a row prints a text of its own, as one of each call does.
 #[derive(Clone, Copy)]
 pub enum Call {
     Quiet(Quiet),
@@ -38,41 +40,47 @@ pub enum Call {
     Unknown,
 }
 
-// By the number of a field's word among those of the fields.
-#[tactic(auto, unfolding(crate::specs::Desks::Calls::alter_numbered))]
-fn alter_numbered(n: usize) -> Call
-    ensures { result ≡ alter_numbered n }
+// The field that a row alters; a row that alters none names no call.
+fn alter_named(row: &[u8]) -> Call
+    ensures { result ≡ alter_numbered (field_word row.now) }
 {
-    match n {
-        0 => Call::Alter(Field::Line),
-        1 => Call::Alter(Field::Good),
-        2 => Call::Alter(Field::Last),
-        3 => Call::Alter(Field::Kept),
-        4 => Call::Alter(Field::Queued),
-        5 => Call::Alter(Field::Key),
-        _ => Call::Unknown,
-    }
+    named(
+        row,
+        2,
+        &[
+            (b"line", Call::Alter(Field::Line)),
+            (b"good", Call::Alter(Field::Good)),
+            (b"last", Call::Alter(Field::Last)),
+            (b"kept", Call::Alter(Field::Kept)),
+            (b"queued", Call::Alter(Field::Queued)),
+            (b"key", Call::Alter(Field::Key)),
+        ],
+    )
+    .unwrap_or(Call::Unknown)
 }
 
-// By the numbers of a call's word and of a field's word.
-#[tactic(auto, unfolding(crate::specs::Desks::Calls::call_numbered))]
-fn call_numbered(n: usize, field: usize) -> Call
-    ensures { result ≡ call_numbered n field }
+// The call that a row names, whatever its numbers are.
+fn call_named(row: &[u8]) -> Call
+    ensures { result ≡ call_numbered (call_word row.now) (field_word row.now) }
 {
-    match n {
-        0 => Call::Quiet(Quiet::Start),
-        1 => Call::Quiet(Quiet::Tick),
-        2 => Call::Quiet(Quiet::Queue),
-        3 => Call::Quiet(Quiet::Set),
-        4 => Call::Quiet(Quiet::Key),
-        5 => Call::Hear,
-        6 => alter_numbered(field),
-        7 => Call::Show,
-        8 => Call::Quiet(Quiet::ClearQueue),
-        9 => Call::Quiet(Quiet::ClearSet),
-        10 => Call::Due,
-        _ => Call::Unknown,
-    }
+    named(
+        row,
+        1,
+        &[
+            (b"start", Call::Quiet(Quiet::Start)),
+            (b"tick", Call::Quiet(Quiet::Tick)),
+            (b"queue", Call::Quiet(Quiet::Queue)),
+            (b"set", Call::Quiet(Quiet::Set)),
+            (b"key", Call::Quiet(Quiet::Key)),
+            (b"hear", Call::Hear),
+            (b"alter", alter_named(row)),
+            (b"show", Call::Show),
+            (b"clear_queue", Call::Quiet(Quiet::ClearQueue)),
+            (b"clear_set", Call::Quiet(Quiet::ClearSet)),
+            (b"due", Call::Due),
+        ],
+    )
+    .unwrap_or(Call::Unknown)
 }
 
 // Whether the words that a call that hears nothing takes as numbers are numbers.
@@ -80,13 +88,9 @@ fn quiet_numbered(quiet: Quiet, row: &[u8]) -> bool
     ensures { result ≡ quiet_numbered quiet row.now }
 {
     match quiet {
-        Quiet::Start => are_numbers(row, 2, 3),
-        Quiet::Tick => are_numbers(row, 2, 3),
-        Quiet::Queue => are_numbers(row, 3, 13),
-        Quiet::Set => are_numbers(row, 3, 13),
-        Quiet::Key => true,
-        Quiet::ClearQueue => true,
-        Quiet::ClearSet => true,
+        Quiet::Start | Quiet::Tick => are_numbers(row, 2, 3),
+        Quiet::Queue | Quiet::Set => are_numbers(row, 3, 13),
+        Quiet::Key | Quiet::ClearQueue | Quiet::ClearSet => true,
     }
 }
 
@@ -99,8 +103,7 @@ fn well_numbered(call: Call, row: &[u8]) -> bool
         Call::Hear => are_numbers(row, 2, 4),
         Call::Alter(_) => are_numbers(row, 3, 4),
         Call::Due => are_numbers(row, 2, 3),
-        Call::Show => true,
-        Call::Unknown => true,
+        Call::Show | Call::Unknown => true,
     }
 }
 
@@ -109,14 +112,7 @@ fn well_numbered(call: Call, row: &[u8]) -> bool
 pub fn call_of(row: &[u8]) -> Call
     ensures { result ≡ call_of row.now }
 {
-    let n = named(
-        row,
-        1,
-        b"start tick queue set key hear alter show clear_queue clear_set due",
-        11,
-    );
-    let field = named(row, 2, b"line good last kept queued key", 6);
-    let call = call_numbered(n, field);
+    let call = call_named(row);
     if well_numbered(call, row) {
         call
     } else {

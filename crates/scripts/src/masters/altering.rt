@@ -6,18 +6,20 @@ use crate::masters::calls::Field;
 use clock::counters::ToSend;
 use master::state::Master;
 
+// A match on the field, as the desk's calls.rt says.
 pub(crate) fn altered(m: Master, field: Field, value: u8) -> Master
     ensures { result ≡ altered_of m field value }
 {
-    let mut e = m;
     match field {
-        Field::Line => e.line = value,
-        Field::Number => {
-            let number = ToSend(value);
-            e.number = number;
-        }
-        Field::Count => e.count = value,
-        Field::Operation => e.operation = value != 0,
+        Field::Line => Master { line: value, ..m },
+        Field::Number => Master {
+            number: ToSend(value),
+            ..m
+        },
+        Field::Count => Master { count: value, ..m },
+        Field::Operation => Master {
+            operation: value != 0,
+            ..m
+        },
     }
-    e
 }

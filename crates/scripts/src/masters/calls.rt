@@ -1,11 +1,13 @@
 // Which call a row of the master names.
 ghost use Rattle.std.specs.Prelude.{◌≡◌};
-ghost use Rattle.scripts.specs.Masters.Calls.{alter_numbered, call_numbered, sends_numbered, well_numbered, call_of};
+ghost use Rattle.scripts.specs.Masters.Calls.{alter_numbered, call_numbered, sends_numbered, well_numbered, call_word, field_word, call_of};
 
 use crate::meanings::named;
 use crate::numbers::are_numbers;
 
-// The calls that may send.
+// The calls that may send. The cases of this and of Field and Call are the master's own, as the desk's are the desk's:
+// one type for both ends would have calls that one of them lacks, and each match below would have to refuse them.
+// A row's word chooses among them in a match, for the reason that the desk's calls.rt says.
 #[derive(Clone, Copy)]
 pub enum Sends {
     Tick,
@@ -22,6 +24,7 @@ pub enum Field {
     Operation,
 }
 
+// Unknown is a case beside the others, and not None: such a row prints a text of its own, as one of each call does.
 #[derive(Clone, Copy)]
 pub enum Call {
     Start,
@@ -32,35 +35,41 @@ pub enum Call {
     Unknown,
 }
 
-// By the number of a field's word among those of the fields.
-#[tactic(auto, unfolding(crate::specs::Masters::Calls::alter_numbered))]
-fn alter_numbered(n: usize) -> Call
-    ensures { result ≡ alter_numbered n }
+// The field that a row alters; a row that alters none names no call.
+fn alter_named(row: &[u8]) -> Call
+    ensures { result ≡ alter_numbered (field_word row.now) }
 {
-    match n {
-        0 => Call::Alter(Field::Line),
-        1 => Call::Alter(Field::Number),
-        2 => Call::Alter(Field::Count),
-        3 => Call::Alter(Field::Operation),
-        _ => Call::Unknown,
-    }
+    named(
+        row,
+        2,
+        &[
+            (b"line", Call::Alter(Field::Line)),
+            (b"number", Call::Alter(Field::Number)),
+            (b"count", Call::Alter(Field::Count)),
+            (b"operation", Call::Alter(Field::Operation)),
+        ],
+    )
+    .unwrap_or(Call::Unknown)
 }
 
-// By the numbers of a call's word and of a field's word.
-#[tactic(auto, unfolding(crate::specs::Masters::Calls::call_numbered))]
-fn call_numbered(n: usize, field: usize) -> Call
-    ensures { result ≡ call_numbered n field }
+// The call that a row names, whatever its numbers are.
+fn call_named(row: &[u8]) -> Call
+    ensures { result ≡ call_numbered (call_word row.now) (field_word row.now) }
 {
-    match n {
-        0 => Call::Start,
-        1 => Call::Sends(Sends::Tick),
-        2 => Call::Sends(Sends::Offer),
-        3 => Call::Sends(Sends::Hear),
-        4 => alter_numbered(field),
-        5 => Call::Show,
-        6 => Call::Due,
-        _ => Call::Unknown,
-    }
+    named(
+        row,
+        1,
+        &[
+            (b"start", Call::Start),
+            (b"tick", Call::Sends(Sends::Tick)),
+            (b"offer", Call::Sends(Sends::Offer)),
+            (b"hear", Call::Sends(Sends::Hear)),
+            (b"alter", alter_named(row)),
+            (b"show", Call::Show),
+            (b"due", Call::Due),
+        ],
+    )
+    .unwrap_or(Call::Unknown)
 }
 
 // Whether the words behind time and room that a call takes as numbers are numbers.
@@ -68,9 +77,8 @@ fn sends_numbered(sends: Sends, row: &[u8]) -> bool
     ensures { result ≡ sends_numbered sends row.now }
 {
     match sends {
-        Sends::Tick => true,
         Sends::Offer => are_numbers(row, 5, 15),
-        Sends::Hear => true,
+        Sends::Tick | Sends::Hear => true,
     }
 }
 
@@ -83,8 +91,7 @@ fn well_numbered(call: Call, row: &[u8]) -> bool
         Call::Sends(sends) => are_numbers(row, 2, 4) && sends_numbered(sends, row),
         Call::Alter(_) => are_numbers(row, 3, 4),
         Call::Due => are_numbers(row, 2, 3),
-        Call::Show => true,
-        Call::Unknown => true,
+        Call::Show | Call::Unknown => true,
     }
 }
 
@@ -93,9 +100,7 @@ fn well_numbered(call: Call, row: &[u8]) -> bool
 pub fn call_of(row: &[u8]) -> Call
     ensures { result ≡ call_of row.now }
 {
-    let n = named(row, 1, b"start tick offer hear alter show due", 7);
-    let field = named(row, 2, b"line number count operation", 4);
-    let call = call_numbered(n, field);
+    let call = call_named(row);
     if well_numbered(call, row) {
         call
     } else {

@@ -1,19 +1,20 @@
 // The desk's answers.
+// put_ functions and no Display, as tellings.rt says.
 ghost use Rattle.std.specs.Prelude.{◌≡◌};
 ghost use Rattle.records.specs.Refusals.{refusal_of};
 ghost use Rattle.desk.specs.Replying.{origin_of};
 ghost use Rattle.desk.specs.Answers.{done_of};
 ghost use Rattle.desk.specs.Heard.{told_of};
 ghost use Rattle.text.specs.Putting.{puts};
-ghost use Rattle.scripts.specs.Tellings.Desks.{done_text, noted_text, silent_text, fault_text, repeat_text, handling_text, answering_text, handled_text, told_text};
+ghost use Rattle.scripts.specs.Tellings.Desks.{done_text, noted_text, silent_text, fault_text, handling_text, answering_text, handled_text, told_text};
 
-use crate::printing::put_either;
+use crate::printing::{put_behind, put_either};
 use crate::tellings::sources::put_source;
+use crate::tellings::{Bytes, InWords};
 use desk::answers::Outcome;
 use desk::heard::Heard;
 use desk::replying::Source;
 use records::refusals::Refusal;
-use text::amounts::put_bytes;
 use text::items::put_refusal;
 use text::putting::put_text;
 
@@ -22,9 +23,17 @@ pub fn put_outcome(out: &mut [u8], at: usize, answer: Outcome) -> usize
     ensures { (result, out.new) ≡ puts (done_text (done_of answer)) at out.old }
 {
     match answer {
-        Outcome::Done => put_text(out, at, b"done"),
-        Outcome::Lost => put_text(out, at, b"line noted lost"),
-        Outcome::Refused(r) => put_refusal(out, at, r),
+        Ok(false) => put_text(out, at, b"done"),
+        Ok(true) => put_text(out, at, b"line noted lost"),
+        Err(r) => put_refusal(out, at, r),
+    }
+}
+
+impl InWords for Outcome {
+    ghost words = { λ answer. done_text (done_of answer) };
+
+    fn put(self, out: &mut [u8], at: usize) -> usize {
+        put_outcome(out, at, self)
     }
 }
 
@@ -39,23 +48,14 @@ fn put_silent(out: &mut [u8], at: usize, lost: bool, refusal: Refusal) -> usize
     ensures { (result, out.new) ≡ puts (silent_text lost (refusal_of refusal)) at out.old }
 {
     let a = put_noted(out, at, lost);
-    let b = put_text(out, a, b"silent, ");
-    put_refusal(out, b, refusal)
+    put_behind(out, a, b"silent, ", refusal)
 }
 
 fn put_fault(out: &mut [u8], at: usize, lost: bool, n: usize) -> usize
     ensures { (result, out.new) ≡ puts (fault_text lost n) at out.old }
 {
     let a = put_noted(out, at, lost);
-    let b = put_text(out, a, b"fault, ");
-    put_bytes(out, b, n)
-}
-
-fn put_repeat(out: &mut [u8], at: usize, n: usize) -> usize
-    ensures { (result, out.new) ≡ puts (repeat_text n) at out.old }
-{
-    let a = put_text(out, at, b"repeat, ");
-    put_bytes(out, a, n)
+    put_behind(out, a, b"fault, ", Bytes(n))
 }
 
 // A telegram is handled.
@@ -71,8 +71,7 @@ pub fn put_answering(out: &mut [u8], at: usize, s: Source, n: usize) -> usize
     ensures { (result, out.new) ≡ puts (answering_text (origin_of s) n) at out.old }
 {
     let a = put_source(out, at, s);
-    let b = put_text(out, a, b", ");
-    put_bytes(out, b, n)
+    put_behind(out, a, b", ", Bytes(n))
 }
 
 fn put_handled(out: &mut [u8], at: usize, lost: bool, s: Source, n: usize) -> usize
@@ -83,14 +82,23 @@ fn put_handled(out: &mut [u8], at: usize, lost: bool, s: Source, n: usize) -> us
 }
 
 // A call that hears.
-pub fn put_heard(out: &mut [u8], at: usize, answer: Heard) -> usize
+#[tactic(auto, unfolding(crate::specs::Tellings::Desks::repeat_text))]
+pub fn put_heard(out: &mut [u8], at: usize, answer: Result<Heard, Refusal>) -> usize
     ensures { (result, out.new) ≡ puts (told_text (told_of answer)) at out.old }
 {
     match answer {
-        Heard::Refused(r) => put_refusal(out, at, r),
-        Heard::Silent(lost, r) => put_silent(out, at, lost, r),
-        Heard::Fault(lost, n) => put_fault(out, at, lost, n),
-        Heard::Repeat(n) => put_repeat(out, at, n),
-        Heard::Handled(lost, s, n) => put_handled(out, at, lost, s, n),
+        Err(r) => put_refusal(out, at, r),
+        Ok(Heard::Silent(lost, r)) => put_silent(out, at, lost, r),
+        Ok(Heard::Fault(lost, n)) => put_fault(out, at, lost, n),
+        Ok(Heard::Repeat(n)) => put_behind(out, at, b"repeat, ", Bytes(n)),
+        Ok(Heard::Handled(lost, s, n)) => put_handled(out, at, lost, s, n),
+    }
+}
+
+impl InWords for Result<Heard, Refusal> {
+    ghost words = { λ answer. told_text (told_of answer) };
+
+    fn put(self, out: &mut [u8], at: usize) -> usize {
+        put_heard(out, at, self)
     }
 }

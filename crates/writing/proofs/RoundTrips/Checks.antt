@@ -1,4 +1,5 @@
 -- Reading accepts bytes just where checks 1 to 11 find no fault in them. Assumes nothing.
+use Rattle.std.specs.Prelude.{None}
 use mathlib.Core.Path.{◌≡◌}
 use mathlib.Core.Bool.{true}
 use mathlib.Core.List.{List}
@@ -15,7 +16,6 @@ use Rattle.records.specs.Answers.{first_fault, accepted}
 use Rattle.reading.specs.Frame.{field_of, frame_checks}
 use Rattle.reading.specs.Contents.{row_in, outside, wrong_letter, misshapen, field_checks}
 use Rattle.reading.specs.Reading.{record_in, checks, reading_of}
-use Rattle.records.specs.declared.answers.Spot.TheVariants.{Nowhere}
 use Rattle.writing.proofs.RoundTrips.Faults.{Faultless, faultless-append, faultless-parts, needs-held, no-fault, faultless-good, good-faultless, accepted-good}
 use Rattle.writing.proofs.RoundTrips.Fields.{Clear}
 use Rattle.writing.proofs.RoundTrips.Frames.{Framed, framed-faultless, faultless-framed}
@@ -24,7 +24,7 @@ module _ (line : ℕ) (s : List ℕ) where
   -- what checks 8 to 11 ask
   pub record Carried : Type 0 where
     pub found : (row_in line s).found ≡ true
-    pub inside : outside 5 (field_of s) ≡ Nowhere
+    pub inside : outside 5 (field_of s) ≡ None
     pub clear : Clear line (get_or s 3 0) 5 (slots_of (row_in line s).form) (field_of s)
 
   -- they find no fault just where it holds

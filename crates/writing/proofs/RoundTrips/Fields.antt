@@ -1,4 +1,5 @@
 -- Both round trips of a data field: permitted values and their packets, packets without a fault and their values. Assumes nothing.
+use Rattle.std.specs.Prelude.{None}
 use mathlib.Core.Path.{◌≡◌, refl, ap}
 use mathlib.Core.Bool.{Bool, true}
 use mathlib.Core.List.{List, [], ◌∷◌, ◌++◌}
@@ -16,7 +17,6 @@ use Rattle.forms.specs.Lines.{is_line}
 use Rattle.forms.specs.Forms.{Slot, width_in}
 use Rattle.values.specs.Values.{narrow, text_of, permitted, permits_value, permits_values}
 use Rattle.reading.specs.Contents.{data_of, behind, data_behind, packet_value, outside, wrong_letter, bad_value, values_in}
-use Rattle.records.specs.declared.answers.Spot.TheVariants.{Nowhere}
 use Rattle.writing.proofs.RoundTrips.Rows.{no_slot, narrow_slot}
 use Rattle.writing.proofs.RoundTrips.Faults.{no-fault}
 use Rattle.writing.proofs.RoundTrips.Values.{text-length, text-permitted, text-value, permitted-set, value-text, value-permitted}
@@ -27,7 +27,7 @@ every_append t [] ys h k = k
 every_append t (x ∷ xs) ys h k = both_true (t x) (every t (xs ++ ys)) (both_left _ _ h) (every_append t xs ys (both_right (t x) (every t xs) h) k)
 
 -- bytes of the set have no fault in them
-pub set-inside : (at : ℕ) (d : List ℕ) → every in_set d ≡ true → outside at d ≡ Nowhere
+pub set-inside : (at : ℕ) (d : List ℕ) → every in_set d ≡ true → outside at d ≡ None
 unfolding outside
 set-inside at [] h = refl
 set-inside at (b ∷ d) h = rw (both_left (in_set b) (every in_set d) h) (set-inside (at + 1) d (both_right (in_set b) (every in_set d) h))
@@ -59,7 +59,7 @@ data-first [] vs = refl
 data-first (p ∷ ps) vs = refl
 
 -- each letter is the form's
-pub data-letters : (at : ℕ) (ps : List Slot) (vs : List ℕ) → wrong_letter at ps (data_of ps vs) ≡ Nowhere
+pub data-letters : (at : ℕ) (ps : List Slot) (vs : List ℕ) → wrong_letter at ps (data_of ps vs) ≡ None
 unfolding data_of wrong_letter
 data-letters at [] vs = refl
 data-letters at (p ∷ ps) vs =
@@ -86,7 +86,7 @@ module _ (line kind : ℕ) where
       (data-set ps (drop 1 vs) l (both_right (in_set p.letter) _ s) (both_right (narrow_slot p) _ q) (more-values p ps vs h)))
 
   -- each value is permitted
-  pub data-permitted : (at : ℕ) (ps : List Slot) (vs : List ℕ) → every narrow_slot ps ≡ true → permits_values line kind ps vs ≡ true → bad_value line kind at ps (data_of ps vs) ≡ Nowhere
+  pub data-permitted : (at : ℕ) (ps : List Slot) (vs : List ℕ) → every narrow_slot ps ≡ true → permits_values line kind ps vs ≡ true → bad_value line kind at ps (data_of ps vs) ≡ None
   unfolding data_of bad_value
   data-permitted at [] vs q h = refl
   data-permitted at (p ∷ ps) vs q h =
@@ -116,8 +116,8 @@ module _ (line kind : ℕ) where
 -- a field without a fault: as long as its packets, with their letters and permitted values
 pub record Clear (line kind at : ℕ) (ps : List Slot) (d : List ℕ) : Type 0 where
   pub filled : length d ≡ width_in ps
-  pub letters : wrong_letter at ps d ≡ Nowhere
-  pub values : bad_value line kind at ps d ≡ Nowhere
+  pub letters : wrong_letter at ps d ≡ None
+  pub values : bad_value line kind at ps d ≡ None
 
 -- a list is its first element, n behind it, and the rest
 split-first : (d : List ℕ) (x n : ℕ) → 0 < length d → get_or d 0 0 ≡ x → x ∷ (take n (drop 1 d) ++ drop (1 + n) d) ≡ d
@@ -129,11 +129,11 @@ module _ (line kind at : ℕ) (p : Slot) (ps : List Slot) (d : List ℕ) (c : Cl
   unfolding width_in
   clear_filled = c.filled
 
-  clear-letter : (eqb (get_or d 0 0) p.letter ≡ true) × (wrong_letter (behind p at) ps (data_behind p d) ≡ Nowhere)
+  clear-letter : (eqb (get_or d 0 0) p.letter ≡ true) × (wrong_letter (behind p at) ps (data_behind p d) ≡ None)
   unfolding wrong_letter
   clear-letter = no-fault (eqb (get_or d 0 0) p.letter) at (wrong_letter (behind p at) ps (data_behind p d)) c.letters
 
-  clear-value : (permitted line kind p.letter (packet_value p d) ≡ true) × (bad_value line kind (behind p at) ps (data_behind p d) ≡ Nowhere)
+  clear-value : (permitted line kind p.letter (packet_value p d) ≡ true) × (bad_value line kind (behind p at) ps (data_behind p d) ≡ None)
   unfolding bad_value
   clear-value = no-fault (permitted line kind p.letter (packet_value p d)) at (bad_value line kind (behind p at) ps (data_behind p d)) c.values
 

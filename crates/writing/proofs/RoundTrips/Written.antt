@@ -1,4 +1,5 @@
 -- The telegram of a permitted record: it passes checks 1 to 11, carries the record and has the form's length. Assumes nothing.
+use Rattle.std.specs.Prelude.{None}
 use mathlib.Core.Path.{◌≡◌}
 use mathlib.Core.Bool.{true}
 use mathlib.Core.List.{List}
@@ -15,7 +16,6 @@ use Rattle.records.specs.declared.records.Record.{Record}
 use Rattle.reading.specs.Contents.{row_in, data_of, outside, values_in}
 use Rattle.reading.specs.Reading.{record_in}
 use Rattle.writing.specs.Writing.{telegram_of}
-use Rattle.records.specs.declared.answers.Spot.TheVariants.{Nowhere}
 use Rattle.writing.proofs.RoundTrips.Rows.{Row, row}
 use Rattle.writing.proofs.RoundTrips.Fields.{Clear, set-inside, data-length, data-first, data-letters, data-set, data-permitted, data-values}
 use Rattle.writing.proofs.RoundTrips.Records.{permitted-found, permitted-line, permitted-values}
@@ -46,7 +46,7 @@ module _ (line : ℕ) (rec : Record) (h : permits_record line rec ≡ true) wher
       data-values line (type_of rec) 10 slots (fields_of rec) e known.values-narrow (permitted-values line rec h)
 
   -- its bytes are of the set, its letters the form's and its values permitted
-  field-inside : outside 5 field ≡ Nowhere
+  field-inside : outside 5 field ≡ None
   field-inside =
       set-inside 5 field (data-set line (type_of rec) slots (values_of rec) (permitted-line line rec h) known.letters known.values-narrow (permitted-values line rec h))
 

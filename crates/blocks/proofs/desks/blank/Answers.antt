@@ -7,4 +7,4 @@ use Rattle.blocks.proofs.desks.blank.Goals as goal
 
 pub returns : goal.returns
 unfolding start_of
-returns c = ap (λ (y : Desk × Done). y.0) c.start-step.ensures
+returns c = ap (λ (y : Desk × Done). y.0) c.start.ensures

@@ -7,4 +7,4 @@ use Rattle.blocks.proofs.masters.unstarted.Goals as goal
 
 pub returns : goal.returns
 unfolding start_of
-returns c = ap (λ (y : Master × Told). y.0) c.start-step.ensures
+returns c = ap (λ (y : Master × Told). y.0) c.start.ensures

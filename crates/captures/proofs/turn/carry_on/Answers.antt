@@ -13,4 +13,4 @@ pub returns : goal.returns
 returns c =
     let a = c.args in
     kept a.lister a.line a.buf.now a.n a.out.now _ c.list_part-listed.result _ c.part.ensures c.list_part-listed.ensures _ c.kept_from-from.result _ _
-    (not-false _ c.if-not-listed.false) c.kept_from-from.ensures c.keep_tail.ensures (rw (c.wrapping_add_u64.ensures.value, c.less.ensures))
+    (not-false _ c.if-not-listed.false) c.kept_from-from.ensures c.keep_tail.ensures (rw (c.wrapping_add_u64.ensures.value, c.saturating_sub.ensures))

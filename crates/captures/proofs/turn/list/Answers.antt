@@ -9,30 +9,30 @@ use Rattle.captures.specs.Turn.{listing}
 use Rattle.captures.proofs.Turning.{tasked}
 use Rattle.captures.proofs.turn.list.Goals as goal
 
-pub returns-in-Fails : goal.returns-in-Fails
-returns-in-Fails c =
+pub returns-in-Err : goal.returns-in-Err
+returns-in-Err c =
     let a = c.args in
-    refused-turn listing a.lister a.buf.now a.got a.out.now _ (sym (ap fault_of c.in-Fails.is) ∙ c.list_check-check.ensures)
+    refused-turn listing a.lister a.buf.now a.got a.out.now _ (sym (ap fault_of c.in-Err.is) ∙ c.list_check.ensures)
 
 pub overflow_add-n : goal.overflow_add-n
 overflow_add-n c =
     let a = c.args in
-    omega (arith, (passing _ a.lister.held _ _ _ a.got _ (sym (ap fault_of c.in_default.is) ∙ c.list_check-check.ensures)).bytes)
+    omega (arith, (passing _ a.lister.held _ _ _ a.got _ (sym (ap fault_of c.in_default.is) ∙ c.list_check.ensures)).bytes)
 
 pub returns-in-Lists : goal.returns-in-Lists
 returns-in-Lists c =
     let a = c.args in
-    tasked a.lister a.buf.now a.got a.out.now _ _ _ _ (sym (ap fault_of c.in_default.is) ∙ c.list_check-check.ensures) c.part.ensures c.task.ensures
+    tasked a.lister a.buf.now a.got a.out.now _ _ _ _ (sym (ap fault_of c.in_default.is) ∙ c.list_check.ensures) c.part.ensures c.task.ensures
     c.in-Lists.is c.carry_on.ensures
 
 pub returns-in-Unnamed : goal.returns-in-Unnamed
 returns-in-Unnamed c =
     let a = c.args in
-    tasked a.lister a.buf.now a.got a.out.now _ _ _ _ (sym (ap fault_of c.in_default.is) ∙ c.list_check-check.ensures) c.part.ensures c.task.ensures
+    tasked a.lister a.buf.now a.got a.out.now _ _ _ _ (sym (ap fault_of c.in_default.is) ∙ c.list_check.ensures) c.part.ensures c.task.ensures
     c.in-Unnamed.is (ap (beside a.buf.now) c.unnamed.ensures)
 
 pub returns-in-Over : goal.returns-in-Over
 returns-in-Over c =
     let a = c.args in
-    tasked a.lister a.buf.now a.got a.out.now _ _ _ _ (sym (ap fault_of c.in_default.is) ∙ c.list_check-check.ensures) c.part.ensures c.task.ensures
+    tasked a.lister a.buf.now a.got a.out.now _ _ _ _ (sym (ap fault_of c.in_default.is) ∙ c.list_check.ensures) c.part.ensures c.task.ensures
     c.in-Over.is (ap {B = Turned Lister} (λ (l : Lister). (l, (written 0, (a.buf.now, a.out.now)))) c.ended.ensures)

@@ -7,6 +7,7 @@ use Rattle.desk.proofs.applying.fault.Goals as goal
 pub returns : goal.returns
 returns c =
     let a = c.args in
-    let p = fault-permitted a.desk.line (ranges-parts a.desk c.requires.0).lined in
-    let e = as-sent a.desk.line _ a.number a.out.now p c.requires.1 c.requires.2 _ _ c.send-sent.ensures in
-    fault-sent a.desk a.lost a.number a.out.now _ _ e
+    let d = a.sound.desk in
+    let p = fault-permitted d.line (ranges-parts d a.sound.fits).lined in
+    let e = as-sent d.line _ a.number a.out.now p c.requires.0 c.requires.1 _ _ c.send-sent.ensures in
+    fault-sent d a.lost a.number a.out.now _ _ e

@@ -7,7 +7,7 @@ use Rattle.in656.proofs.desks.in656_desk_hear.Goals as goal
 pub returns-then-block-ne-RECORD_LENGTH : goal.returns-then-block-ne-RECORD_LENGTH
 unfolding desk_hear
 returns-then-block-ne-RECORD_LENGTH c =
-    rw (ne_eqb _ _ c.if-block-ne-RECORD_LENGTH.true, ← c.load-desk.ensures, ← c.hear-refused.ensures, c.of_heard.ensures)
+    rw (ne_eqb _ _ c.if-block-ne-RECORD_LENGTH.true, ← c.load-desk.ensures, ← c.hear.ensures, c.from.ensures)
 
 pub returns : goal.returns
 returns c =

@@ -1,14 +1,9 @@
 -- `in656_master_look` makes the tests of its definition in order. Assumes nothing.
-use Rattle.in656.proofs.Looking.{out-of-ranges, no_room, all_seen}
+use Rattle.in656.proofs.Looking.{not_seen, all_seen}
 use Rattle.in656.proofs.looks.in656_master_look.Goals as goal
 
-pub returns-then-not-in_ranges : goal.returns-then-not-in_ranges
-returns-then-not-in_ranges c = rw (← c.load-master.ensures) (out-of-ranges _ _ c.in_ranges.ensures _ _ _ c.if-not-in_ranges.true c.refuse.ensures)
-
-pub returns-then-block-ne-RECORD_LENGTH : goal.returns-then-block-ne-RECORD_LENGTH
-returns-then-block-ne-RECORD_LENGTH c =
-    rw (← c.load-master.ensures) (no_room _ _ c.in_ranges.ensures _ _ _ c.if-not-in_ranges.false c.if-block-ne-RECORD_LENGTH.true c.refuse-then-block-ne-RECORD_LENGTH.ensures)
+pub returns-in-Err : goal.returns-in-Err
+returns-in-Err c = rw (← c.load-master.ensures) (not_seen _ _ c.in_ranges.ensures _ _ _ _ c.in-Err.ensures c.refuse.ensures)
 
 pub returns : goal.returns
-returns c =
-    rw (← c.load-master.ensures) (all_seen _ _ c.in_ranges.ensures _ _ _ _ c.if-not-in_ranges.false c.if-block-ne-RECORD_LENGTH.false c.show_master.ensures)
+returns c = rw (← c.load-master.ensures) (all_seen _ _ c.in_ranges.ensures _ _ _ c.in_default.ensures c.show_master.ensures)

@@ -7,7 +7,7 @@ use Rattle.in656.proofs.masters.in656_master_hear.Goals as goal
 pub returns-then-block-ne-RECORD_LENGTH : goal.returns-then-block-ne-RECORD_LENGTH
 unfolding master_hear
 returns-then-block-ne-RECORD_LENGTH c =
-    rw (ne_eqb _ _ c.if-block-ne-RECORD_LENGTH.true, ← c.load-master.ensures, ← c.hear-refused.ensures, c.of_answer.ensures)
+    rw (ne_eqb _ _ c.if-block-ne-RECORD_LENGTH.true, ← c.load-master.ensures, ← c.hear.ensures, c.from.ensures)
 
 pub returns : goal.returns
 returns c =

@@ -3,4 +3,4 @@ use Rattle.in656.proofs.Calls.{master-sends}
 use Rattle.in656.proofs.masters.in656_master_tick.Goals as goal
 
 pub returns : goal.returns
-returns c = rw (← c.load-master.ensures) (master-sends _ _ _ _ _ _ _ c.close.ensures c.tick-step.ensures)
+returns c = rw (← c.load-master.ensures) (master-sends _ _ _ _ _ _ _ c.close.ensures c.tick.ensures)

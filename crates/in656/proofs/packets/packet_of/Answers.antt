@@ -8,13 +8,13 @@ pub overflow_cast-count : goal.overflow_cast-count
 overflow_cast-count c = omega (arith, c.count_of-count.ensures, count_small c.args.form)
 
 pub returns-then-count-i : goal.returns-then-count-i
-returns-then-count-i c = packet-none c.args.form _ _ _ c.count_of-count.ensures c.if-count-i.true (rw (c.with_count.ensures, c.done-none.ensures))
+returns-then-count-i c = packet-none c.args.form _ _ _ c.count_of-count.ensures c.if-count-i.true (rw (c.with_count.ensures, c.done.ensures))
 
-pub bounds-letters-i : goal.bounds-letters-i
-bounds-letters-i c = omega (arith, c.if-count-i.false, c.count_of-count.ensures, count_small c.args.form)
+pub bounds-form-i : goal.bounds-form-i
+bounds-form-i c = omega (arith, c.if-count-i.false, c.count_of-count.ensures, count_small c.args.form)
 
-pub bounds-lens-i : goal.bounds-lens-i
-bounds-lens-i c = omega (arith, c.if-count-i.false, c.count_of-count.ensures, count_small c.args.form)
+pub bounds-form-i-2 : goal.bounds-form-i-2
+bounds-form-i-2 c = omega (arith, c.if-count-i.false, c.count_of-count.ensures, count_small c.args.form)
 
 pub overflow_cast-count-2 : goal.overflow_cast-count-2
 overflow_cast-count-2 c = omega (arith, c.count_of-count.ensures, count_small c.args.form)
@@ -22,4 +22,4 @@ overflow_cast-count-2 c = omega (arith, c.count_of-count.ensures, count_small c.
 pub returns : goal.returns
 returns c =
     packet-here c.args.form _ _ _ c.count_of-count.ensures _ c.if-count-i.false c.sender_of.ensures
-    (rw (c.with_count-2.ensures, c.with_written-w.ensures, c.wide.ensures.0, c.say-r.ensures))
+    (rw (c.with_count-2.ensures, c.with_written.ensures, c.say.ensures, c.from.ensures, c.from-2.ensures))

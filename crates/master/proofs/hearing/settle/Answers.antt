@@ -6,8 +6,8 @@ use Rattle.master.proofs.hearing.settle.Goals as goal
 
 pub returns-in-Failed : goal.returns-in-Failed
 returns-in-Failed c =
-    let a = c.args in
+    let b = c.args.busy in
     let e = c.with_line-heard.ensures in
     c.fail.ensures
-    ∙ settle-failed a.master a.at a.out.now a.verdict _ e c.in-Failed.is (line-noted a.master _ _ e c.requires.0)
-    (line-noted-busy a.master _ _ e c.requires.1.0) c.requires.1.1
+    ∙ settle-failed b.master c.args.at c.args.out.now c.args.verdict _ e c.in-Failed.is (line-noted b.master _ _ e b.fits)
+    (line-noted-busy b.master _ _ e b.waits) c.requires

@@ -1,20 +1,23 @@
 -- `reading::datafield::outside_set` meets its contract.
-use Rattle.std.proofs.Common.{◌≡◌, sym, ◌∙◌, length, arith}
-use lib.Seq.{drop-length}
-use Rattle.reading.specs.DataField.{outside}
-use Rattle.reading.proofs.Walk.{byte-in, byte-out}
+use Rattle.std.proofs.Common.{rules, ◌≡◌, true, false, arith}
+use borrow.Author.Tests.{tests}
+use Rattle.std.proofs.lemmas.Iterator.{YieldsList-from_slice, IsFirst-from_position}
+use Rattle.characters.specs.Characters.{in_set}
+use Rattle.reading.proofs.Walk.{inside_all, first_outside}
 use Rattle.reading.proofs.datafield.outside_set.Goals as goal
 
-pub returns-then-not-in_set : goal.returns-then-not-in_set
-returns-then-not-in_set c =
-    let l = c.loop-i in
-    sym (byte-out c.args.field.now l.i c.loop-i-test.true (sym c.in_set.ensures ∙ c.if-not-in_set.true)) ∙ l.invariant.1
-
-pub loop-i-preserved : goal.loop-i-preserved
-loop-i-preserved c =
-    let l = c.loop-i in
-    (omega arith, sym (byte-in c.args.field.now l.i c.loop-i-test.true (sym c.in_set.ensures ∙ c.if-not-in_set.false)) ∙ l.invariant.1)
+pub returns-in_err-i : goal.returns-in_err-i
+returns-in_err-i c =
+    let d = c.args.field.now in
+    let k =
+    IsFirst-from_position _ _ _ (λ b. in_set b ≡ false) (λ b. in_set b ≡ true) c.in_err-i.ensures.ran (YieldsList-from_slice d cc) (λ x q h. search (rules, tests))
+    (λ x q h. search (rules, tests)) in
+    rw c.from_residual.ensures (inside_all 5 d (λ i l. k i 0 (omega arith) l))
 
 pub returns : goal.returns
-unfolding outside
-returns c = let h : c.loop-i.i ≡ length c.args.field.now = omega arith in rw (h, drop-length) at c.loop-i.invariant.1
+returns c =
+    let d = c.args.field.now in
+    let k =
+    IsFirst-from_position _ _ _ (λ b. in_set b ≡ false) (λ b. in_set b ≡ true) c.in_ok-i.ensures.ran (YieldsList-from_slice d cc) (λ x q h. search (rules, tests))
+    (λ x q h. search (rules, tests)) in
+    first_outside 5 d c.in_ok-i.i k.0 (λ i l. k.2 i 0 (omega arith) l) (k.1 0)

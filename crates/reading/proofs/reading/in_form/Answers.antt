@@ -2,15 +2,15 @@
 use Rattle.reading.specs.Reading.{in_form}
 use Rattle.reading.proofs.reading.in_form.Goals as goal
 
-pub returns-in-At : goal.returns-in-At
+pub returns-in-Some : goal.returns-in-Some
 unfolding in_form
-returns-in-At c = rw (← c.in-At.ensures)
+returns-in-Some c = rw (← c.in-Some.ensures)
 
-pub returns-in-At-bad : goal.returns-in-At-bad
+pub returns-in-Some-bad_value : goal.returns-in-Some-bad_value
 unfolding in_form
-returns-in-At-bad c = rw (← c.wrong_form-wrong.ensures, c.in_default.is, ← c.in-At-bad.ensures)
+returns-in-Some-bad_value c = rw (← c.in_default.ensures, ← c.in-Some-bad_value.ensures)
 
 pub returns : goal.returns
 unfolding in_form
 returns c =
-    rw (← c.wrong_form-wrong.ensures, c.in_default.is, ← c.bad_value-bad.ensures, c.in_default-bad.is, c.record_of.ensures, c.values_in.ensures)
+    rw (← c.in_default.ensures, ← c.in_default-bad_value.ensures, c.record_of.ensures, c.values_in.ensures)

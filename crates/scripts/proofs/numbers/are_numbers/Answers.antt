@@ -1,18 +1,16 @@
--- `are_numbers` looks at word after word. Assumes nothing.
-use Rattle.std.proofs.Common.{sym, ap, ◌∙◌, arith}
+-- `are_numbers` asks of each word. Assumes nothing.
+use Rattle.std.proofs.Common.{rules, ℕ, ◌-◌, refl, sym, ◌∙◌}
+use borrow.Author.Tests.{tests}
+use Rattle.text.specs.Fields.{word_of}
+use Rattle.std.proofs.lemmas.Iterator.{YieldsList-from_range}
+use Rattle.std.proofs.lemmas.Iterator.Search.{all_from_yields_List}
 use Rattle.scripts.specs.Numbers.{is_number}
-use Rattle.scripts.proofs.Digits.{number_at, no-number-at, all-numbers}
+use Rattle.scripts.proofs.Digits.{are_numbers_is}
 use Rattle.scripts.proofs.numbers.are_numbers.Goals as goal
 
-pub returns-then-not-is_number : goal.returns-then-not-is_number
-returns-then-not-is_number c =
-    let l = c.loop-k in
-    no-number-at _ _ l.k (omega arith) (ap is_number (sym c.word.ensures) ∙ sym c.is_number.ensures ∙ c.if-not-is_number.true) ∙ l.invariant
-
-pub loop-k-preserved : goal.loop-k-preserved
-loop-k-preserved c =
-    let l = c.loop-k in
-    number_at _ _ l.k (omega arith) (ap is_number (sym c.word.ensures) ∙ sym c.is_number.ensures ∙ c.if-not-is_number.false) ∙ l.invariant
-
 pub returns : goal.returns
-returns c = all-numbers _ _ c.loop-k.k (omega arith) ∙ c.loop-k.invariant
+returns c =
+    let a = c.args in
+    all_from_yields_List (λ (i : ℕ). is_number (word_of i a.row.now)) _ _ c.all.result c.all.ensures.ran
+    (YieldsList-from_range a.first a.«end» (a.«end» - a.first) refl refl) (λ x b q k. search (rules, tests))
+    ∙ sym (are_numbers_is a.row.now a.first a.«end»)

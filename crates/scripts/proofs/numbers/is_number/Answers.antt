@@ -1,20 +1,12 @@
--- `is_number` looks at byte after byte. Assumes nothing.
-use Rattle.std.proofs.Common.{sym, ap, ◌∙◌, arith}
-use Rattle.scripts.specs.Numbers.{is_digit, is_number}
-use Rattle.scripts.proofs.Digits.{digit_at, no-digit-at, all_digits}
+-- `is_number` asks of each byte. Assumes nothing.
+use Rattle.std.proofs.Common.{rules, sym, ◌∙◌}
+use borrow.Author.Tests.{tests}
+use Rattle.std.specs.Char.{is_ascii_digit}
+use Rattle.std.proofs.lemmas.Iterator.{YieldsList-from_slice}
+use Rattle.std.proofs.lemmas.Iterator.Search.{all_from_yields_List}
+use Rattle.scripts.proofs.Digits.{is_number_is}
 use Rattle.scripts.proofs.numbers.is_number.Goals as goal
 
-pub returns-then-not-is_digit : goal.returns-then-not-is_digit
-unfolding is_number
-returns-then-not-is_digit c =
-    let l = c.loop-i in
-    no-digit-at _ l.i (omega arith) (ap is_digit (sym c.byte_at.ensures) ∙ sym c.is_digit.ensures ∙ c.if-not-is_digit.true) ∙ l.invariant
-
-pub loop-i-preserved : goal.loop-i-preserved
-loop-i-preserved c =
-    let l = c.loop-i in
-    digit_at _ l.i (omega arith) (ap is_digit (sym c.byte_at.ensures) ∙ sym c.is_digit.ensures ∙ c.if-not-is_digit.false) ∙ l.invariant
-
 pub returns : goal.returns
-unfolding is_number
-returns c = all_digits _ c.loop-i.i (omega arith) ∙ c.loop-i.invariant
+returns c =
+    all_from_yields_List is_ascii_digit _ _ c.all.result c.all.ensures.ran (YieldsList-from_slice c.args.word.now (cc)) (λ x b q k. search (rules, tests)) ∙ sym (is_number_is c.args.word.now)

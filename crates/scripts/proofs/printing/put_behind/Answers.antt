@@ -3,4 +3,4 @@ use Rattle.text.proofs.Puts.{then}
 use Rattle.scripts.proofs.printing.put_behind.Goals as goal
 
 pub returns : goal.returns
-returns c = search then
+returns g c = search then

@@ -1,23 +1,18 @@
--- `word_place` compares word after word. Assumes nothing.
-use Rattle.std.proofs.Common.{List, ℕ, ap, ◌∙◌, arith}
+-- `word_place` finds the first number at which the words are the same. Assumes nothing.
+use Rattle.std.proofs.Common.{rules, ℕ, refl, sym, ap, ◌∙◌}
 use native.Mathlib.Nat.{sub-zero}
-use Rattle.text.specs.Fields.{same_text, word_place}
-use Rattle.text.proofs.Rows.{found_at, not_at, nowhere}
+use borrow.Author.Tests.{tests}
+use Rattle.std.specs.Option.{unwrap_or}
+use Rattle.std.proofs.lemmas.Iterator.{YieldsList-from_range}
+use Rattle.std.proofs.lemmas.Iterator.Adapters.{option_map_id}
+use Rattle.std.proofs.lemmas.Iterator.Search.{find_from_yields_List}
+use Rattle.text.specs.Fields.{same_text, word_of}
+use Rattle.text.proofs.Rows.{word_place_is}
 use Rattle.text.proofs.fields.word_place.Goals as goal
 
-pub loop-k-init : goal.loop-k-init
-unfolding word_place
-loop-k-init c = rw sub-zero
-
-pub returns-then-same : goal.returns-then-same
-returns-then-same c =
-    let same = c.same.ensures ∙ ap (λ (t : List ℕ). same_text t c.args.one.now) c.word.ensures in
-    found_at _ _ c.args.count c.loop-k.k _ (omega arith) same c.if-same.true ∙ c.loop-k.invariant
-
-pub loop-k-preserved : goal.loop-k-preserved
-loop-k-preserved c =
-    let same = c.same.ensures ∙ ap (λ (t : List ℕ). same_text t c.args.one.now) c.word.ensures in
-    not_at _ _ c.args.count c.loop-k.k _ (omega arith) same c.if-same.false ∙ c.loop-k.invariant
-
 pub returns : goal.returns
-returns c = nowhere _ _ c.args.count c.loop-k.k (omega arith) ∙ c.loop-k.invariant
+returns c =
+    let n = c.args.count in
+    let road = YieldsList-from_range 0 n n refl (sub-zero n) in
+    let e = find_from_yields_List (λ (j : ℕ). same_text (word_of j c.args.words.now) c.args.one.now) _ _ c.find.result c.find.ensures.ran road (λ x b q k. search (rules, tests)) in
+    c.unwrap_or.ensures ∙ ap (λ r. unwrap_or r c.args.count) (sym (option_map_id c.find.result) ∙ e) ∙ sym (word_place_is _ _ c.args.count)

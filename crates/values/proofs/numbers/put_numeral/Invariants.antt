@@ -5,6 +5,3 @@ use Rattle.values.proofs.numbers.put_numeral.Given as goal
 
 abbrev pub invariant-loop-i : goal.invariant-loop-i
 invariant-loop-i l = (l.i ≤ length l.fn.part) × (length l.part ≡ length l.fn.part) × (numeral_on l.decimal l.i l.m (drop l.i l.part) ≡ numeral l.decimal (length l.fn.part) l.n)
-
-abbrev pub decreases-loop-i : goal.decreases-loop-i
-decreases-loop-i l = l.i

@@ -1,25 +1,16 @@
--- The character at this place is permitted or not, and behind the last there is none.
-use Rattle.std.proofs.Common.{◌≡◌, ◌∙◌, sym, length, arith}
-use Rattle.std.proofs.Math.Seq.{drop-length}
-use Rattle.values.specs.Values.{permitted_from}
-use Rattle.values.proofs.Texts.{byte-good, byte-bad}
+-- The library's test of each byte is the definition's. Assumes nothing.
+use Rattle.std.proofs.Common.{rules, ◌∙◌, ℕ}
+use Rattle.std.proofs.lemmas.Iterator.{YieldsList-from_slice}
+use Rattle.std.proofs.lemmas.Iterator.Consumers.{YieldsList-from_enumerate}
+use Rattle.std.proofs.lemmas.Iterator.Search.{all_from_yields_List}
+use Rattle.values.specs.Packets.{permits}
+use Rattle.values.proofs.Texts.{each-byte}
 use Rattle.values.proofs.values.permits_bytes.Goals as goal
 
-pub returns-then-not-permits_byte : goal.returns-then-not-permits_byte
-returns-then-not-permits_byte c =
-    let a = c.args in
-    let l = c.loop-at in
-    sym (byte-bad a.line a.kind a.letter l.at a.text.now c.loop-at-test.true (sym c.permits_byte.ensures ∙ c.if-not-permits_byte.true)) ∙ l.invariant.1
-
-pub loop-at-preserved : goal.loop-at-preserved
-loop-at-preserved c =
-    let a = c.args in
-    let l = c.loop-at in
-    let g = byte-good a.line a.kind a.letter l.at a.text.now c.loop-at-test.true (sym c.permits_byte.ensures ∙ c.if-not-permits_byte.false) in
-    (omega arith, sym g ∙ l.invariant.1)
-
 pub returns : goal.returns
-unfolding permitted_from
 returns c =
-    let h : c.loop-at.at ≡ length c.args.text.now = omega arith in
-    rw (h, drop-length) at c.loop-at.invariant.1
+    let a = c.args in
+    let s = a.text.now in
+    let test = λ (p : ℕ × ℕ). permits a.line a.kind a.letter p.0 p.1 in
+    all_from_yields_List test _ _ _ c.all.ensures.ran (YieldsList-from_enumerate (YieldsList-from_slice s cc) cc) (λ x b q k. search rules)
+    ∙ each-byte a.line a.kind a.letter 0 s

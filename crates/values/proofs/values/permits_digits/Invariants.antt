@@ -6,6 +6,3 @@ use Rattle.values.proofs.values.permits_digits.Given as goal
 
 abbrev pub invariant-loop-i : goal.invariant-loop-i
 invariant-loop-i l = (l.i ≤ l.w) × (permitted_from l.line l.kind l.letter l.from (numeral l.decimal l.i l.m) ≡ permitted_from l.line l.kind l.letter l.from (numeral l.decimal l.w l.n))
-
-abbrev pub decreases-loop-i : goal.decreases-loop-i
-decreases-loop-i l = l.i

@@ -1,37 +1,22 @@
--- The j-th value is permitted or not, and behind the last there is none.
-use Rattle.std.proofs.Common.{◌≡◌, ◌∙◌, ◌-◌, sym, [], drop, arith}
-use Rattle.forms.specs.Forms.{slots_in, slots_of}
-use Rattle.forms.proofs.Slots.{count_small, slots_end}
-use Rattle.values.specs.Values.{permits_values}
-use Rattle.values.proofs.Texts.{value-good, value-bad}
+-- The library's test of each letter, length and value is the definition's. Assumes nothing.
+use Rattle.std.proofs.Common.{rules, ◌∙◌, ℕ, arith, take}
+use Rattle.std.proofs.lemmas.Iterator.{YieldsList-from_slice, YieldsList-from_zip}
+use Rattle.std.proofs.lemmas.Iterator.Search.{all_from_yields_List}
+use Rattle.forms.specs.Forms.{slots_of}
+use Rattle.forms.proofs.Slots.{count_small}
+use Rattle.values.specs.Values.{permits_value}
+use Rattle.values.proofs.Texts.{each-value}
 use Rattle.values.proofs.values.permits_values.Goals as goal
 
-pub loop-j-init : goal.loop-j-init
-loop-j-init c =
-    let n = c.count_of-count.result in
-    let z : n - 0 ≡ n = omega arith in
-    (omega (arith, c.count_of-count.ensures, count_small c.args.form), omega arith, rw z)
-
-pub returns-then-not-permits_value : goal.returns-then-not-permits_value
-unfolding slots_of
-returns-then-not-permits_value c =
-    let a = c.args in
-    let l = c.loop-j in
-    let g = sym c.permits_value.ensures ∙ c.if-not-permits_value.true in
-    sym (value-bad a.line a.kind a.form.letters a.form.lens a.values c.count_of-count.result l.j c.loop-j-test.true g) ∙ l.invariant.2 ∙ rw c.count_of-count.ensures
-
-pub loop-j-preserved : goal.loop-j-preserved
-loop-j-preserved c =
-    let a = c.args in
-    let l = c.loop-j in
-    let g = sym c.permits_value.ensures ∙ c.if-not-permits_value.false in
-    (l.invariant.0, omega arith, sym (value-good a.line a.kind a.form.letters a.form.lens a.values c.count_of-count.result l.j c.loop-j-test.true g) ∙ l.invariant.2)
-
 pub returns : goal.returns
-unfolding slots_of permits_values
+unfolding slots_of
 returns c =
-    let f = c.args.form in
-    let n = c.count_of-count.result in
-    let l = c.loop-j in
-    let e : slots_in (n - l.j) (drop l.j f.letters) (drop l.j f.lens) ≡ [] = slots_end (drop l.j f.letters) (drop l.j f.lens) n l.j c.loop-j-test.false in
-    (rw e at l.invariant.2) ∙ rw c.count_of-count.ensures
+    let a = c.args in
+    let n = c.count_of.result in
+    let few = count_small a.form in
+    let test = λ (p : (ℕ × ℕ) × ℕ). permits_value a.line a.kind p.0.0 p.0.1 p.1 in
+    all_from_yields_List test c.all.new.self _ _ c.all.ensures.ran
+    (YieldsList-from_zip (YieldsList-from_zip (YieldsList-from_slice (take n a.form.letters) cc) (YieldsList-from_slice a.form.lens cc)) (YieldsList-from_slice a.values cc))
+    (λ x b q k. search rules)
+    ∙ each-value a.line a.kind n a.form.letters a.form.lens a.values (omega arith) (omega arith) (omega arith)
+    ∙ rw c.count_of.ensures

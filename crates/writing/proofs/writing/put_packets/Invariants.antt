@@ -8,6 +8,3 @@ abbrev pub invariant-loop-j : goal.invariant-loop-j
 invariant-loop-j l =
     (l.count ≤ 10) × (l.j ≤ l.count) × (l.at + width_in (slots_in (l.count - l.j) (drop l.j l.letters) (drop l.j l.lens)) ≡ length l.field)
     × (take l.at l.field ++ data_of (slots_in (l.count - l.j) (drop l.j l.letters) (drop l.j l.lens)) (drop l.j l.values) ≡ data_of (slots_in l.count l.letters l.lens) l.values)
-
-abbrev pub decreases-loop-j : goal.decreases-loop-j
-decreases-loop-j l = l.count - l.j

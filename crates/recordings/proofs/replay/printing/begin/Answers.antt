@@ -5,4 +5,5 @@ use Rattle.recordings.proofs.replay.printing.begin.Goals as goal
 
 pub returns : goal.returns
 unfolding opening_text
-returns c = search then
+returns c = then _ _ _ _ _ _ _ _ c.put_number-a.ensures (then _ _ _ _ _ _ _ _ c.put_byte-b.ensures (then _ _ _ _ _ _ _ _ c.put_number-c.ensures
+    (then _ _ _ _ _ _ _ _ c.put_byte-d.ensures (then _ _ _ _ _ _ _ _ (rw c.from.ensures at c.put_number-e.ensures) c.put_byte.ensures))))

@@ -3,9 +3,9 @@ use Rattle.text.specs.Putting.{puts}
 use Rattle.text.proofs.Puts.{then}
 use Rattle.recordings.proofs.replay.printing.put_read.Goals as goal
 
-pub returns-in-Accepted : goal.returns-in-Accepted
-returns-in-Accepted c = rw c.in-Accepted.is (then _ _ _ _ _ _ _ _ c.put_record-a.ensures c.put_text.ensures)
+pub returns : goal.returns
+returns c = rw c.in-Ok.is (then _ _ _ _ _ _ _ _ c.put_record-a.ensures c.put_text.ensures)
 
-pub returns-in-Refused : goal.returns-in-Refused
+pub returns-in_default : goal.returns-in_default
 unfolding puts
-returns-in-Refused c = rw c.in-Refused.is
+returns-in_default c = rw c.in_default.is

@@ -7,4 +7,4 @@ use Rattle.recordings.proofs.replay.state.begun.Goals as goal
 
 pub returns : goal.returns
 unfolding begun_on
-returns c = rw (ap {B = Desk} (λ (y : Desk × Done). y.0) c.start-step.ensures)
+returns c = rw (ap {B = Desk} (λ (y : Desk × Done). y.0) c.start.ensures)

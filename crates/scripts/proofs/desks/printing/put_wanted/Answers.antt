@@ -7,6 +7,6 @@ pub returns-in-None : goal.returns-in-None
 unfolding puts
 returns-in-None c = rw c.in-None.is
 
-pub returns-in-Is : goal.returns-in-Is
+pub returns-in-Some : goal.returns-in-Some
 unfolding set_text
-returns-in-Is c = rw c.in-Is.is c.put_behind.ensures
+returns-in-Some c = rw c.in-Some.is c.put_behind.ensures

@@ -5,4 +5,6 @@ use Rattle.scripts.proofs.tellings.masters.put_given_up.Goals as goal
 
 pub returns : goal.returns
 unfolding given_up_text
-returns c = search then
+returns c =
+    let cause = rw c.cause_word.ensures at c.put_text-b.ensures in
+    then _ _ _ _ _ _ _ _ c.put_text-a.ensures (then _ _ _ _ _ _ _ _ cause c.put_count.ensures)

@@ -1,9 +1,0 @@
--- `load` compares before it answers. Assumes nothing.
-use Rattle.blocks.proofs.Loads.{loads, loads-blank}
-use Rattle.blocks.proofs.desks.load.Goals as goal
-
-pub returns-then-is_block : goal.returns-then-is_block
-returns-then-is_block c = loads _ _ _ _ _ c.desk_at-d.ensures c.if-is_block.ensures
-
-pub returns-else-is_block : goal.returns-else-is_block
-returns-else-is_block c = loads-blank _ _ _ _ _ _ c.desk_at-d.ensures c.if-is_block.ensures c.blank.ensures

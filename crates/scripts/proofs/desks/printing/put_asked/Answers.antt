@@ -1,8 +1,0 @@
--- `put_asked` puts its parts one behind the other. Assumes nothing.
-use Rattle.text.proofs.Puts.{then}
-use Rattle.scripts.specs.Desks.Printing.{asked_text}
-use Rattle.scripts.proofs.desks.printing.put_asked.Goals as goal
-
-pub returns : goal.returns
-unfolding asked_text
-returns c = search then

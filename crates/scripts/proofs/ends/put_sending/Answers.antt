@@ -1,0 +1,6 @@
+-- `put_sending` puts its parts one behind the other. Assumes nothing.
+use Rattle.text.proofs.Puts.{then}
+use Rattle.scripts.proofs.ends.put_sending.Goals as goal
+
+pub returns : goal.returns
+returns g c = search then
