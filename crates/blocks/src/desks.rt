@@ -11,7 +11,7 @@ ghost use Rattle.blocks.specs.Desks.{waiting_bytes, waiting_at, set_byte, wanted
 
 use crate::heads::{count_byte, put_head};
 use crate::layout;
-use crate::layout::{Put, Take, put_each, take_each};
+use crate::layout::{Loaded, Put, Take, put_each, take_each};
 use crate::record::RECORD_LENGTH;
 use characters::marks::LONGEST;
 use characters::slices::{byte_at, copy, part};
@@ -156,10 +156,12 @@ impl Take for Desk {
 }
 
 // The blank desk of line 0, which every call refuses 15.
-fn blank() -> Desk
-    ensures { result ≡ fresh 0 }
-{
-    Desk::start(0).desk
+impl Loaded for Desk {
+    ghost blank = { fresh 0 };
+
+    fn blank() -> Desk {
+        Desk::start(0).desk
+    }
 }
 
 // The desk of a block; the blank one where the bytes are no desk's.
@@ -167,5 +169,5 @@ fn blank() -> Desk
 pub fn load(block: &[u8]) -> Desk
     ensures { result ≡ load_of block.now }
 {
-    layout::load::<Desk, DESK_LENGTH>(block, blank())
+    layout::load::<Desk, DESK_LENGTH>(block)
 }

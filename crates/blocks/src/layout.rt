@@ -32,6 +32,15 @@ pub trait Take: Put {
         ensures { result ≡ made_of bytes.now };
 }
 
+// What is loaded from a block of its own, and something else from bytes that are no such block.
+pub(crate) trait Loaded: Take {
+    ghost blank: { Self };
+
+    // What stands for bytes that are no block: made only where it is asked for.
+    fn blank() -> Self
+        ensures { result ≡ blank };
+}
+
 // Puts things one behind the other.
 pub(crate) fn put_each<T: Put>(out: &mut [u8], at: usize, xs: &[T]) -> usize
     ensures { (result, out.new) ≡ puts (joined T.bytes_of xs.now) at out.old }
@@ -71,12 +80,16 @@ pub fn save<T: Put>(x: T, block: &mut [u8])
     }
 }
 
-// What a block's bytes make; another thing where they are not the block of what they make.
-pub(crate) fn load<T: Take, const N: usize>(block: &[u8], other: T) -> T
+// What a block's bytes make; the blank thing where they are not the block of what they make.
+pub(crate) fn load<T: Loaded, const N: usize>(block: &[u8]) -> T
     requires size { N ≡ T.LENGTH }
     requires small { N < 2 ^ 32 }
-    ensures { result ≡ loaded T.bytes_of T.made_of other block.now }
+    ensures { result ≡ loaded T.bytes_of T.made_of T.blank block.now }
 {
     let x = T::take(block);
-    if is_block::<T, N>(x, block) { x } else { other }
+    if is_block::<T, N>(x, block) {
+        x
+    } else {
+        T::blank()
+    }
 }

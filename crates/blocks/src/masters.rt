@@ -5,7 +5,7 @@ ghost use Rattle.blocks.specs.Masters.{master_length, master_bytes, master_at, l
 
 use crate::heads::{flag_byte, put_head};
 use crate::layout;
-use crate::layout::{Put, Take};
+use crate::layout::{Loaded, Put, Take};
 use crate::record::RECORD_LENGTH;
 use characters::slices::{byte_at, part};
 use clock::counters::ToSend;
@@ -52,10 +52,12 @@ impl Take for Master {
 }
 
 // The unstarted master of line 0, which every call refuses 15.
-fn unstarted() -> Master
-    ensures { result ≡ unstarted }
-{
-    Master::start(0, 0).master
+impl Loaded for Master {
+    ghost blank = { unstarted };
+
+    fn blank() -> Master {
+        Master::start(0, 0).master
+    }
 }
 
 // The master of a block; the unstarted one where the bytes are no master's.
@@ -63,5 +65,5 @@ fn unstarted() -> Master
 pub fn load(block: &[u8]) -> Master
     ensures { result ≡ load_of block.now }
 {
-    layout::load::<Master, MASTER_LENGTH>(block, unstarted())
+    layout::load::<Master, MASTER_LENGTH>(block)
 }

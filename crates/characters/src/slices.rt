@@ -13,8 +13,10 @@ pub fn byte_at(s: &[u8], at: usize) -> u8
 pub fn part(s: &[u8], from: usize, count: usize) -> &[u8]
     ensures { result.now ≡ take count (drop from s.now) }
 {
-    let rest = &s[from.min(s.len())..];
-    &rest[..count.min(rest.len())]
+    match s.get(from..) {
+        Some(rest) => rest.get(..count).unwrap_or(rest),
+        None => &[],
+    }
 }
 
 // A length less a number of bytes, 0 where it has fewer.

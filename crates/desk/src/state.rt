@@ -57,7 +57,7 @@ impl Desk {
     {
         kept_fits(self.good, self.kept)
             && wanted_fits(self.line, self.requested)
-            && queue_fits(self.line, self.queue, self.queued)
+            && queue_fits(self.line, &self.queue, self.queued)
     }
 
     // Whether the state is in its ranges; places past the count and stored bytes are not looked at.

@@ -32,9 +32,9 @@ pub fn kept_fits(good: bool, kept: usize) -> bool
 }
 
 // Whether each of the first n queued records may answer t on a line.
-// queue and n stay two: fixed memory with its count beside, as Desk has them.
-pub(crate) fn queue_fits(line: u8, queue: [Waiting; 8], n: usize) -> bool
-    ensures { result ≡ every (waiting_fits line) (take n queue) }
+// queue and n stay two: fixed memory with its count beside, as Desk has them. The queue is lent: a copy of it would lie on each caller's stack.
+pub(crate) fn queue_fits(line: u8, queue: &[Waiting], n: usize) -> bool
+    ensures { result ≡ every (waiting_fits line) (take n queue.now) }
 {
     queue
         .iter()

@@ -1,5 +1,6 @@
 // What the telegram forms say of a line (rules L1 to L19).
 ghost use Rattle.std.specs.Prelude.{◌≡◌, ◌+◌, ◌≤◌, length, sum_by};
+ghost use Rattle.std.specs.Option.{option_copied};
 ghost use Rattle.forms.specs.Rows.{forms};
 ghost use Rattle.forms.specs.Forms.{on_line, of_type, of_letter, is_data, looked_of, look_in, type_row, form_of, by_master, by_slave, data_type, count_of, width_of};
 
@@ -37,63 +38,67 @@ fn is_data(form: Form, line: u8) -> bool
     !form.master && !matches!(form.kind, b'A' | b'N') && on_line(form, line)
 }
 
-// The first row of a type on a line.
-#[tactic(auto, unfolding(crate::specs::Forms::type_row))]
-fn of_this_type(line: u8, kind: u8) -> Option<Form>
-    ensures { looked_of result ≡ type_row line kind }
+// The first row of a type on a line. A row is lent, here and below, and copied once by who keeps it: each copy of a form on the way costs a reading some nanoseconds.
+fn of_this_type(table: &[Form], line: u8, kind: u8) -> Option<&Form>
+    ensures { looked_of (option_copied result) ≡ look_in table.now (of_type line kind) }
 {
-    rows()
-        .iter()
-        .find(|form| of_type(**form, line, kind))
-        .copied()
+    table.iter().find(|form| of_type(**form, line, kind))
 }
 
 // The first of them whose first packet has a letter.
-fn of_this_letter(line: u8, kind: u8, letter: u8) -> Option<Form>
-    ensures { looked_of result ≡ look_in forms (of_letter line kind letter) }
+fn of_this_letter(table: &[Form], line: u8, kind: u8, letter: u8) -> Option<&Form>
+    ensures { looked_of (option_copied result) ≡ look_in table.now (of_letter line kind letter) }
 {
-    rows()
+    table
         .iter()
         .find(|form| of_letter(**form, line, kind, letter))
-        .copied()
 }
 
 // The first row that is the slave's data on a line.
-fn of_data(line: u8) -> Option<Form>
-    ensures { looked_of result ≡ look_in forms (is_data line) }
+fn of_data(table: &[Form], line: u8) -> Option<&Form>
+    ensures { looked_of (option_copied result) ≡ look_in table.now (is_data line) }
 {
-    rows().iter().find(|form| is_data(**form, line)).copied()
+    table.iter().find(|form| is_data(**form, line))
 }
 
 // The row of a type on a line by the letter of its first packet; where no row has the letter, the type's first row.
-#[tactic(auto, unfolding(crate::specs::Forms::form_of))]
+#[tactic(auto, unfolding(crate::specs::Forms::form_of, crate::specs::Forms::type_row))]
 pub fn form_of(line: u8, kind: u8, letter: u8) -> Option<Form>
     ensures { looked_of result ≡ form_of line kind letter }
 {
-    of_this_letter(line, kind, letter).or_else(|| of_this_type(line, kind))
+    let table = rows();
+    of_this_letter(&table, line, kind, letter)
+        .or_else(|| of_this_type(&table, line, kind))
+        .copied()
 }
 
 // Whether the master sends this type on this line.
+// Never inlined, as the two below: the table would lie on each caller's stack.
+#[inline(never)]
+#[tactic(auto, unfolding(crate::specs::Forms::type_row))]
 pub fn by_master(line: u8, kind: u8) -> bool
     ensures { result ≡ by_master line kind }
 {
-    of_this_type(line, kind).is_some_and(|form| form.master)
+    of_this_type(&rows(), line, kind).is_some_and(|form| form.master)
 }
 
 // Whether the slave sends this type on this line.
+#[inline(never)]
+#[tactic(auto, unfolding(crate::specs::Forms::type_row))]
 pub(crate) fn by_slave(line: u8, kind: u8) -> bool
     ensures { result ≡ by_slave line kind }
 {
-    of_this_type(line, kind).is_some_and(|form| !form.master)
+    of_this_type(&rows(), line, kind).is_some_and(|form| !form.master)
 }
 
 // The slave's data type on a line (B, 5 or K), 0 where there is no such line.
 // 0 and no Option: docs/PROMISES.md has it as Forms.data_type, which says 0.
+#[inline(never)]
 #[tactic(auto, unfolding(crate::specs::Forms::data_type))]
 pub fn data_type(line: u8) -> u8
     ensures { result ≡ data_type line }
 {
-    of_data(line).map_or(0, |form| form.kind)
+    of_data(&rows(), line).map_or(0, |form| form.kind)
 }
 
 // How many packets a form has, at most ten.
@@ -118,5 +123,7 @@ fn width_by(lens: &[u8]) -> usize
 pub fn width_of(form: Form) -> usize
     ensures { (result ≡ width_of form) × (result ≤ 2560) }
 {
-    width_by(&form.lens[..count_of(form)])
+    let Form { lens, .. } = form;
+    let count = count_of(form);
+    width_by(&lens[..count])
 }

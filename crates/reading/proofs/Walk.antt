@@ -17,8 +17,8 @@ use Prim.Native.Nat.{ℕ, zero, suc, ◌+◌, ◌-◌, ◌≤◌, ◌<◌}
 use native.Mathlib.Omega.{arith}
 use native.Mathlib.Nat.{add-zero}
 use lib.Dec.{eqb}
-use lib.ListN.{length, take, drop, get_or, length-drop}
-use lib.Seq.{drop-drop, take_all}
+use lib.ListN.{length, take, drop, get_or}
+use lib.Seq.{drop-drop}
 use Rattle.characters.specs.Characters.{in_set}
 use Rattle.forms.specs.Forms.{Slot, slots_in}
 use Rattle.values.specs.Values.{permitted, value_of}
@@ -88,12 +88,11 @@ letter_walk at (p ∷ ps) d =
     rw (get_or-take (1 + p.len) d 0 0 (omega arith), letter_walk (behind p at) ps (data_behind p d))
 
 -- the value of a packet by its characters
-pub value-of-packet : (n : ℕ) (d : List ℕ) → take (length (take (1 + n) d)) (drop 1 (take (1 + n) d)) ≡ packet_value record { letter = 0; len = n } d
-value-of-packet n d =
-    take_all (length (take (1 + n) d)) (drop 1 (take (1 + n) d)) (omega (arith, length-drop 1 (take (1 + n) d))) ∙ drop-take 1 n d
+pub value-of-packet : (n : ℕ) (d : List ℕ) → drop 1 (take (1 + n) d) ≡ packet_value record { letter = 0; len = n } d
+value-of-packet n d = drop-take 1 n d
 
 pub value_walk : (line kind at : ℕ) (ps : List Slot) (d : List ℕ)
-    → first_packet (λ letter packet. permitted line kind letter (take (length packet) (drop 1 packet))) at ps d ≡ bad_value line kind at ps d
+    → first_packet (λ letter packet. permitted line kind letter (drop 1 packet)) at ps d ≡ bad_value line kind at ps d
 unfolding first_packet bad_value
 value_walk line kind at [] d = refl
 value_walk line kind at (p ∷ ps) d = rw (value-of-packet p.len d, value_walk line kind (behind p at) ps (data_behind p d))

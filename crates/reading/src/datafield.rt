@@ -1,5 +1,5 @@
 // The data field: checks 9 to 11, and its values (rules R9 to R11).
-ghost use Rattle.std.specs.Prelude.{◌≡◌, ℕ, List, Bool};
+ghost use Rattle.std.specs.Prelude.{◌≡◌, ℕ, List, Bool, drop};
 ghost use Rattle.forms.specs.Forms.{slots_of};
 ghost use Rattle.reading.specs.DataField.{AnswersAs, first_packet, outside, wrong_letter, bad_value, misshapen, values_in};
 
@@ -24,11 +24,10 @@ fn first_packet<F: Fn(u8, &[u8]) -> bool>(field: &[u8], form: Form, fits: F) -> 
     requires { F.IsAlwaysCallable fits }
     ensures { (test : ℕ → List ℕ → Bool) → AnswersAs F.Fn fits test → result ≡ first_packet test 5 (slots_of form) field.now }
 {
+    let Form { letters, lens, .. } = form;
     let count = count_of(form);
-    let letters = &form.letters[..count];
-    let lens = &form.lens[..count];
     let mut at: usize = 0;
-    for (letter, len) in letters.iter().zip(lens) {
+    for (letter, len) in letters[..count].iter().zip(&lens[..count]) {
         let width = 1 + wide(*len);
         if !fits(*letter, part(field, at, width)) {
             return Some(5 + at);
@@ -56,12 +55,19 @@ pub fn wrong_form(field: &[u8], form: Form) -> Option<usize>
     }
 }
 
+// The characters of a packet behind its letter.
+fn behind_letter(packet: &[u8]) -> &[u8]
+    ensures { result.now ≡ drop 1 packet.now }
+{
+    packet.get(1..).unwrap_or(&[])
+}
+
 // Check 11: the letter of the first packet whose value is not permitted.
 pub(crate) fn bad_value(line: u8, kind: u8, field: &[u8], form: Form) -> Option<usize>
     ensures { result ≡ bad_value line kind 5 (slots_of form) field.now }
 {
     first_packet(field, form, |letter, packet| {
-        permits_text(line, kind, letter, part(packet, 1, packet.len()))
+        permits_text(line, kind, letter, behind_letter(packet))
     })
 }
 

@@ -7,7 +7,7 @@ ghost use Rattle.reading.specs.Frame.{is_two, frame_checks};
 
 use characters::checksum::{checksum, hex};
 use characters::marks::{CR, LF, LONGEST, SHORTEST};
-use characters::slices::{byte_at, part};
+use characters::slices::{byte_at, less, part};
 use records::refusals::Refusal;
 
 // Whether the two characters at a place are these. A character past the end is 0, as in the clause, so this is no == of two slices.
@@ -22,14 +22,14 @@ fn is_two(s: &[u8], at: usize, high: u8, low: u8) -> bool
 pub fn count_high(n: usize) -> u8
     ensures { result ≡ 48 + (n - 2) / 10 % 10 }
 {
-    b'0' + (n.saturating_sub(2) / 10 % 10) as u8
+    b'0' + (less(n, 2) / 10 % 10) as u8
 }
 
 // and the low one.
 pub fn count_low(n: usize) -> u8
     ensures { result ≡ 48 + (n - 2) % 10 }
 {
-    b'0' + (n.saturating_sub(2) % 10) as u8
+    b'0' + (less(n, 2) % 10) as u8
 }
 
 // Whether a character is a telegram's number.

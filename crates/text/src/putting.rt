@@ -15,7 +15,9 @@ pub fn put_byte(out: &mut [u8], at: usize, byte: u8) -> usize
 }
 
 // As much of a text as has room, copied in one go.
-pub fn put_text(out: &mut [u8], at: usize, text: &[u8]) -> usize
+// Never inlined: beside the copy of a whole text, whose length is known at most calls, the two would become one copy of a length that is not.
+#[inline(never)]
+fn put_cut(out: &mut [u8], at: usize, text: &[u8]) -> usize
     ensures { (result, out.new) ≡ puts text.now at out.old }
 {
     if out.len() <= at {
@@ -24,4 +26,19 @@ pub fn put_text(out: &mut [u8], at: usize, text: &[u8]) -> usize
     let n = text.len().min(out.len() - at);
     out[at..at + n].copy_from_slice(&text[..n]);
     at + n
+}
+
+// A text that all has room is copied in one go.
+pub fn put_text(out: &mut [u8], at: usize, text: &[u8]) -> usize
+    ensures { (result, out.new) ≡ puts text.now at out.old }
+{
+    if out.len() <= at {
+        return at;
+    }
+    if out.len() - at < text.len() {
+        return put_cut(out, at, text);
+    }
+    let end = at + text.len();
+    out[at..end].copy_from_slice(text);
+    end
 }

@@ -20,10 +20,13 @@ pub fn lead_of(letter: u8) -> u8
 pub fn is_decimal(letter: u8) -> bool
     ensures { result ≡ is_decimal letter }
 {
-    matches!(
-        letter,
-        b'L' | b'%' | b'H' | b'E' | b'S' | b'D' | b'C' | b'T' | b'R' | b'F' | b'P'
-    )
+    match letter {
+        b'L' | b'%' | b'H' | b'E' => true,
+        b'S' | b'D' => true,
+        b'C' | b'T' | b'R' => true,
+        b'F' | b'P' => true,
+        _ => false,
+    }
 }
 
 // Whether there is a rule for the number of a packet's value.

@@ -13,13 +13,16 @@ fn is_digit(b: u8) -> bool
 }
 
 // Whether the byte at a place of a value is permitted: by line, telegram type and packet letter.
+// Letters that follow each other in the alphabet, as C and D, stand in different arms, since one arm would test them as a range.
 // A match and no table of tests: it is the paper's table of packets. Line, type and letter stay arguments, as the definition takes them.
 #[tactic(auto, unfolding(crate::specs::Packets::permits))]
 pub(crate) fn permits_byte(line: u8, kind: u8, letter: u8, at: usize, b: u8) -> bool
     ensures { result ≡ permits line kind letter at b }
 {
     match letter {
-        b'L' | b'%' | b'H' | b'E' | b'S' | b'D' | b'C' | b'T' | b'R' => is_digit(b),
+        b'L' | b'%' | b'H' | b'E' => is_digit(b),
+        b'S' | b'D' => is_digit(b),
+        b'C' | b'T' | b'R' => is_digit(b),
         b'F' => in_channel(at, b),
         b'P' => in_position(at, b),
         b'm' => matches!(b, b'S' | b'T'),
@@ -27,7 +30,8 @@ pub(crate) fn permits_byte(line: u8, kind: u8, letter: u8, at: usize, b: u8) -> 
         b'N' => matches!(b, b'1' | b'2' | b'A'),
         b'M' => in_mode(kind, at, b),
         b'V' => in_watch(kind, at, b),
-        b'W' | b'X' => in_effect(b),
+        b'W' => in_effect(b),
+        b'X' => in_effect(b),
         b'Y' => matches!(b, b'0'..=b'9' | b'A'..=b'V'),
         b'Z' => matches!(b, b'0'..=b'7'),
         b'B' => in_request(line, kind, b),

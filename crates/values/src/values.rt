@@ -161,11 +161,10 @@ pub fn permits_record(line: u8, rec: Record) -> bool
 pub fn permits_values(line: u8, kind: u8, form: Form, values: [u32; 10]) -> bool
     ensures { result ≡ permits_values line kind (slots_of form) values }
 {
-    form.letters[..count_of(form)]
-        .iter()
-        .zip(&form.lens)
-        .zip(&values)
-        .all(|((letter, len), n)| permits_value(line, kind, *letter, *len, *n))
+    let Form { letters, lens, .. } = form;
+    letters[..count_of(form)].iter().zip(&lens).zip(&values).all(|((letter, len), n)| permits_value(
+        line, kind, *letter, *len, *n,
+    ))
 }
 
 // The length of a record's telegram, 0 where its type is not on the line.

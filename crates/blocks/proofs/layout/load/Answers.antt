@@ -1,5 +1,4 @@
 -- `load` compares before it answers. Assumes nothing.
-use Rattle.std.proofs.Common.{refl}
 use Rattle.blocks.proofs.Loads.{loads, loads-blank}
 use Rattle.blocks.proofs.layout.load.Goals as goal
 
@@ -7,4 +6,4 @@ pub returns-then-is_block : goal.returns-then-is_block
 returns-then-is_block g c = loads _ _ _ _ _ c.take-x.ensures c.if-is_block.ensures
 
 pub returns-else-is_block : goal.returns-else-is_block
-returns-else-is_block g c = loads-blank _ _ _ _ _ _ c.take-x.ensures c.if-is_block.ensures refl
+returns-else-is_block g c = loads-blank _ _ _ _ _ _ c.take-x.ensures c.if-is_block.ensures c.blank.ensures

@@ -11,5 +11,5 @@ returns c =
     let a = c.args in
     let test = waiting_fits a.line in
     let e =
-    all_from_yields_List test _ _ c.all.result c.all.ensures.ran (YieldsList-from_take a.n (YieldsList-from_slice a.queue (cc)) (cc)) (λ x b q k. search rules) in
-    e ∙ all-every test (take a.n a.queue)
+    all_from_yields_List test _ _ c.all.result c.all.ensures.ran (YieldsList-from_take a.n (YieldsList-from_slice a.queue.now (cc)) (cc)) (λ x b q k. search rules) in
+    e ∙ all-every test (take a.n a.queue.now)

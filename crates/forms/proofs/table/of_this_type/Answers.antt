@@ -2,13 +2,12 @@
 use Rattle.std.proofs.Common.{rules, ◌∙◌, sym, ap}
 use Rattle.std.proofs.lemmas.Iterator.{YieldsList-from_slice}
 use Rattle.std.proofs.lemmas.Iterator.Search.{find_from_yields_List}
-use Rattle.forms.specs.Forms.{forms, of_type, looked_of, type_row}
+use Rattle.forms.specs.Forms.{of_type, looked_of}
 use Rattle.forms.proofs.RowsOf.{look_find}
 use Rattle.forms.proofs.table.of_this_type.Goals as goal
 
 pub returns : goal.returns
-unfolding type_row
 returns c =
     let test = of_type c.args.line c.args.kind in
-    let e = find_from_yields_List test _ _ c.find.result c.find.ensures.ran (YieldsList-from_slice forms cc) (λ x b q k. search rules) in
-    ap looked_of (c.copied.ensures ∙ e) ∙ sym (look_find forms test)
+    let e = find_from_yields_List test _ _ c.find.result c.find.ensures.ran (YieldsList-from_slice c.args.table.now cc) (λ x b q k. search rules) in
+    ap looked_of e ∙ sym (look_find c.args.table.now test)

@@ -1,10 +1,16 @@
 -- `reading::datafield::first_packet` meets its contract.
-use Rattle.std.proofs.Common.{rules, ◌≡◌, ◌+◌, ◌-◌, ◌≤◌, [], ◌∷◌, ◌++◌, length, length-append, sym, ◌∙◌, drop, arith}
+use Rattle.std.proofs.Common.{rules, ◌≡◌, ◌+◌, ◌-◌, ◌≤◌, [], ◌∷◌, ◌++◌, length, length-append, length-take-le, sym, ◌∙◌, drop, arith}
 use Rattle.forms.specs.Forms.{slots_in, slots_of}
 use Rattle.forms.proofs.Slots.{count_small, slots_end}
 use Rattle.reading.specs.DataField.{first_packet}
 use Rattle.reading.proofs.Walk.{turn, all_turns, packet-right, packet-wrong}
 use Rattle.reading.proofs.datafield.first_packet.Goals as goal
+
+pub slice_bounds-iter-end : goal.slice_bounds-iter-end
+slice_bounds-iter-end g c = sym (length-take-le _ c.args.form.letters (omega (arith, c.count_of-count.ensures, count_small c.args.form)))
+
+pub slice_bounds-zip-end : goal.slice_bounds-zip-end
+slice_bounds-zip-end g c = sym (length-take-le _ c.args.form.lens (omega (arith, c.count_of-count.ensures, count_small c.args.form)))
 
 pub loop-letter-init : goal.loop-letter-init
 loop-letter-init g c =

@@ -1,5 +1,5 @@
--- `put_text` copies as much as has room. Assumes nothing.
-use Rattle.std.proofs.Common.{sym, arith}
+-- `put_text` copies a text that all has room. Assumes nothing.
+use Rattle.std.proofs.Common.{◌∙◌, sym, arith, take_all}
 use Rattle.text.proofs.Puts.{full, in-stretch}
 use Rattle.text.proofs.putting.put_text.Goals as goal
 
@@ -9,4 +9,4 @@ returns-then-out-at c = let a = c.args in sym (full a.text.now a.at a.out.now (o
 pub returns : goal.returns
 returns c =
     let a = c.args in
-    in-stretch a.text.now a.at c.min-n.result _ a.out.now _ (omega arith) c.min-n.ensures (omega arith) c.copy_from_slice.ensures.after
+    in-stretch a.text.now a.at _ _ a.out.now _ (omega arith) (omega arith) (omega arith) (c.copy_from_slice.ensures.after ∙ sym (take_all _ a.text.now (omega arith)))

@@ -1,5 +1,5 @@
 -- The library's test of each letter, length and value is the definition's. Assumes nothing.
-use Rattle.std.proofs.Common.{rules, ◌∙◌, ℕ, arith, take}
+use Rattle.std.proofs.Common.{rules, ◌∙◌, ℕ, sym, arith, take, length-take-le}
 use Rattle.std.proofs.lemmas.Iterator.{YieldsList-from_slice, YieldsList-from_zip}
 use Rattle.std.proofs.lemmas.Iterator.Search.{all_from_yields_List}
 use Rattle.forms.specs.Forms.{slots_of}
@@ -7,6 +7,9 @@ use Rattle.forms.proofs.Slots.{count_small}
 use Rattle.values.specs.Values.{permits_value}
 use Rattle.values.proofs.Texts.{each-value}
 use Rattle.values.proofs.values.permits_values.Goals as goal
+
+pub slice_bounds-iter-end : goal.slice_bounds-iter-end
+slice_bounds-iter-end c = sym (length-take-le _ c.args.form.letters (omega (arith, c.count_of.ensures, count_small c.args.form)))
 
 pub returns : goal.returns
 unfolding slots_of
