@@ -4,6 +4,7 @@ use mathlib.Core.Bool.{Bool, true, false}
 use mathlib.Core.List.{List}
 use Prim.Native.Nat.{ℕ, ◌≤◌, ◌<◌}
 use Prim.Native.Char.{code}
+use native.Mathlib.Omega.{arith}
 use lib.ListN.{get_or}
 use borrow.Author.Tests.{eq-eqb, ne_eqb, le-ltb, lt-ltb}
 use Rattle.forms.specs.Forms.{by_master}
@@ -67,6 +68,10 @@ module _ (good : Bool) (last : ℕ) (x : No) (byte : ℕ) where
   pub bad-low : (x.number ≡ 6 → ⊥) → x.number < 8 → silent x ≡ bad_frame good last x byte
   unfolding bad_frame
   bad-low h k = rw (ne_eqb x.number 6 h, lt-ltb x.number 8 k)
+
+  pub bad-high : (x.number ≡ 6 → ⊥) → 12 ≤ x.number → silent x ≡ bad_frame good last x byte
+  unfolding bad_frame
+  bad-high h k = rw (ne_eqb x.number 6 h, le-ltb x.number 8 (omega arith), le-ltb x.number 12 k)
 
   pub bad-contents : (x.number ≡ 6 → ⊥) → 8 ≤ x.number → x.number < 12 → (n : ℕ) → n ≡ number_in byte → good_frame good last n (contents x) ≡ bad_frame good last x byte
   unfolding bad_frame

@@ -4,3 +4,4 @@ pub mod Truths
 pub mod Listed
 pub mod Passes
 pub mod Digits
+pub mod Keys

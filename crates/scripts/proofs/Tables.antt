@@ -1,44 +1,34 @@
--- What a table of words says of a word is what the word's number among them says. Assumes nothing.
-use Rattle.std.proofs.Common.{◌≡◌, ℕ, zero, suc, ◌+◌, Bool, true, false, List, [], ◌∷◌, Bor, length, map, ap, ◌∙◌, add-zero, zero-add, arith}
-use Rattle.std.specs.Prelude.{Option, cond, Some, unwrap_or, find, option_map}
+-- What stands at a word's place in a row of meanings is what the word's number says. Assumes nothing.
+use Rattle.std.proofs.Common.{◌≡◌, ℕ, zero, suc, ◌+◌, ◌≤◌, Bool, true, false, List, [], ◌∷◌, refl, ◌∙◌, zero-add, arith}
+use Rattle.std.specs.Prelude.{Option, cond, unwrap_or}
+use Rattle.std.specs.List.{slice_get}
 use Rattle.text.specs.Fields.{word_of, word_place_from, word_place, same_text}
-use Rattle.scripts.specs.Meanings.{is_word, named_in}
 
--- the rows of a table, with its words as texts
-abbrev pub spelled : {T : Type 0} → List (Bor (List ℕ) × T) → List (List ℕ × T)
-spelled table = map (λ entry. (entry.0.now, entry.1)) table
+either-within : (b : Bool) (n m k : ℕ) → n ≤ k → m ≤ k → cond b n m ≤ k
+either-within true n m k here behind = here
+either-within false n m k here behind = behind
 
--- so many words of a text from one on, each beside what its number says
-abbrev pub numbered : {T : Type 0} → (ℕ → T) → List ℕ → ℕ → ℕ → List (List ℕ × T)
-numbered f words n zero = []
-numbered f words n (suc k) = (word_of n words, f n) ∷ numbered f words (suc n) k
+place-within : (words one : List ℕ) (k n : ℕ) → word_place_from k n words one ≤ n + k
+unfolding word_place_from
+place-within words one zero n = omega arith
+place-within words one (suc k) n =
+    let rest : word_place_from k (suc n) words one ≤ suc n + k = place-within words one k (suc n) in
+    either-within (same_text (word_of n words) one) n _ (n + suc k) (omega arith) (omega arith)
 
--- the first row has the word, or else one behind it
-first-or : {T : Type 0} (b : Bool) (entry : Bor (List ℕ) × T) (found : Option (Bor (List ℕ) × T)) (d : T) (f : ℕ → T) (n m : ℕ)
-    → entry.1 ≡ f n → unwrap_or (option_map (λ e. e.1) found) d ≡ f m
-    → unwrap_or (option_map (λ e. e.1) (cond b (Some entry) found)) d ≡ f (cond b n m)
-first-or true entry found d f n m here behind = here
-first-or false entry found d f n m here behind = behind
+-- what so many numbers say, from 0 on
+abbrev pub numbered : {T : Type 0} → (ℕ → T) → ℕ → List T
+numbered f zero = []
+numbered f (suc k) = f 0 ∷ numbered (λ n. f (suc n)) k
 
-named_from : {T : Type 0} (f : ℕ → T) (words one : List ℕ) (table : List (Bor (List ℕ) × T)) (n : ℕ)
-    → spelled table ≡ numbered f words n (length table)
-    → unwrap_or (named_in one table) (f (n + length table)) ≡ f (word_place_from (length table) n words one)
-unfolding word_place_from named_in
-named_from {T = T} f words one [] n h = rw (add-zero n)
-named_from {T = T} f words one (entry ∷ table) n h =
-    let pair : ◌≡◌ {A = List ℕ × T} (entry.0.now, entry.1) (word_of n words, f n) = cc in
-    let w : entry.0.now ≡ word_of n words = ap (λ p. p.0) pair in
-    let v : entry.1 ≡ f n = ap (λ p. p.1) pair in
-    let rest : spelled table ≡ numbered f words (suc n) (length table) = cc in
-    let k : n + suc (length table) ≡ suc n + length table = omega arith in
-    rw (← w, k) (first-or (same_text entry.0.now one) entry (find (is_word one) table) (f (suc n + length table)) f n _ v (named_from f words one table (suc n) rest))
+meaning-at : {T : Type 0} (f : ℕ → T) (count place : ℕ) → place ≤ count → unwrap_or (slice_get (numbered f count) place) (f count) ≡ f place
+meaning-at f zero zero w = refl
+meaning-at f zero (suc place) w = elim w [ ]
+meaning-at f (suc count) zero w = refl
+meaning-at f (suc count) (suc place) w = meaning-at (λ n. f (suc n)) count place (omega arith)
 
--- what a table of all of a text's words, in their order, says of a word, and d of any other
-pub named_is : {T : Type 0} (f : ℕ → T) (words one : List ℕ) (table : List (Bor (List ℕ) × T)) {found : Option T} {r d : T}
-    → found ≡ named_in one table → r ≡ unwrap_or found d
-    → spelled table ≡ numbered f words 0 (length table) → d ≡ f (length table)
-    → r ≡ f (word_place words (length table) one)
+-- what stands at a word's place among what the numbers of the words say, or else what the number behind them says, is what the word's number says
+pub named_is : {T : Type 0} (f : ℕ → T) (words : List ℕ) (count : ℕ) (one : List ℕ) {found : Option T} {r : T}
+    → found ≡ slice_get (numbered f count) (word_place words count one) → r ≡ unwrap_or found (f count)
+    → r ≡ f (word_place words count one)
 unfolding word_place
-named_is f words one table e u h k =
-    let n = rw (zero-add (length table)) at (named_from f words one table 0 h) in
-    u ∙ rw (e, k) n
+named_is f words count one e u = u ∙ rw e (meaning-at f count _ (rw zero-add at (place-within words one count 0)))

@@ -1,19 +1,10 @@
 -- What the words of a row mean (docs/SCENES.md). Assumes nothing.
-use Rattle.std.specs.Prelude.{Bool, cond, List, ℕ, ◌%◌, ltb, take, replicate, Option, find, option_map}
-use Rattle.std.specs.Borrow.{Bor}
+use Rattle.std.specs.Prelude.{cond, List, ℕ, ◌%◌, ltb, take, replicate}
 use Prim.Native.Char.{code}
 use Rattle.records.specs.declared.records.Record.{Record}
 use Rattle.text.specs.Frames.{meant_by}
-use Rattle.text.specs.Fields.{from_field, word_value, same_text}
+use Rattle.text.specs.Fields.{from_field, word_value}
 use Rattle.text.specs.Items.{record_said}
-
--- whether a row of a table has this word
-abbrev pub is_word : {T : Type 0} → List ℕ → Bor (List ℕ) × T → Bool
-is_word one entry = same_text entry.0.now one
-
--- what a table of words says that a word names
-unfoldable pub named_in : {T : Type 0} → List ℕ → List (Bor (List ℕ) × T) → Option T
-named_in one table = option_map (λ entry. entry.1) (find (is_word one) table)
 
 -- a word as a number kept in a byte
 abbrev pub small_at : ℕ → List ℕ → ℕ

@@ -46,11 +46,8 @@ pub fn kind_of(row: &[u8]) -> Kind
     named(
         row,
         0,
-        &[
-            (b"desk", Kind::Desk),
-            (b"master", Kind::Master),
-            (b"elapsed", elapsed(row)),
-        ],
+        b"desk master elapsed",
+        &[Kind::Desk, Kind::Master, elapsed(row)],
     )
-    .unwrap_or(unnamed(row))
+    .unwrap_or_else(|| unnamed(row))
 }

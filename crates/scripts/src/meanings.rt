@@ -1,24 +1,22 @@
 // What the words of a row mean.
-ghost use Rattle.std.specs.Prelude.{◌≡◌};
-ghost use Rattle.text.specs.Fields.{word_of};
+ghost use Rattle.std.specs.Prelude.{◌≡◌, length};
+ghost use Rattle.std.specs.List.{slice_get};
+ghost use Rattle.text.specs.Fields.{word_of, word_place};
 ghost use Rattle.text.specs.Putting.{puts};
-ghost use Rattle.scripts.specs.Meanings.{named_in, small_at, room_of, record_at, meant_at};
+ghost use Rattle.scripts.specs.Meanings.{small_at, room_of, record_at, meant_at};
 
 use records::records::Record;
-use text::fields::{from_field, same, word, word_value};
+use text::fields::{from_field, word, word_place, word_value};
 use text::frames::put_meant;
 use text::items::record_said;
 
-// What the word of this number names by a table of words; None where it is none of them.
-#[tactic(auto, unfolding(crate::specs::Meanings::named_in))]
-pub(crate) fn named<T: Copy>(row: &[u8], at: usize, table: &[(&[u8], T)]) -> Option<T>
-    ensures { result ≡ named_in (word_of at row.now) table.now }
+// What the word of this number names: the meaning at the place of that word among the words of a text; None where it is none of them.
+pub(crate) fn named<T: Copy>(row: &[u8], at: usize, words: &[u8], meanings: &[T]) -> Option<T>
+    ensures { result ≡ slice_get meanings.now (word_place words.now (length meanings.now) (word_of at row.now)) }
 {
-    let one = word(row, at);
-    table
-        .iter()
-        .find(|entry| same(entry.0, one))
-        .map(|entry| entry.1)
+    meanings
+        .get(word_place(words, meanings.len(), word(row, at)))
+        .copied()
 }
 
 // A word as a number kept in a byte.

@@ -1,11 +1,12 @@
 -- The parts of a row between separators, texts that are the same, and the place of a word. Assumes nothing.
-use Rattle.std.proofs.Common.{◌≡◌, ℕ, zero, suc, ◌+◌, ◌-◌, ◌<◌, ◌≤◌, Bool, eqb, List, [], ◌∷◌, length}
-use Rattle.std.proofs.Common.{refl, ap, ◌∙◌, ap₂, add-zero, zero-add, add-one, arith, eq-eqb, eqb-true, le-ltb, lt-ltb}
-use lib.Pointwise.{pointwise}
+use Rattle.std.proofs.Common.{◌≡◌, ℕ, zero, suc, ◌+◌, ◌-◌, ◌<◌, ◌≤◌, Bool, true, false, eqb, List, [], ◌∷◌, length, get_or, drop}
+use Rattle.std.proofs.Common.{refl, ap, ◌∙◌, ap₂, add-zero, zero-add, add-one, arith, eq-eqb, eqb-true, le-ltb, lt-ltb, drop_of_length-le, drop-cons}
 use Rattle.std.specs.Prelude.{not}
 use Rattle.std.specs.Option.{unwrap_or}
 use Rattle.std.proofs.lemmas.List.Sums.{prefix_len-le-length}
 use Rattle.std.specs.List.{find, range_with_len, position, position_or_len, before_first, after_first}
+use mathlib.Core.Bool.{◌&&◌}
+use Rattle.laws.specs.Truth.{both}
 use Rattle.laws.proofs.Truths.{clash, both_left, both_right}
 use Rattle.laws.proofs.Passes.{order, on_test}
 use Rattle.text.specs.Fields.{up_to, behind_first, from_field, same_text, word_place_from, word_place, word_of, SameIsEqual, EqualIsSame}
@@ -43,13 +44,41 @@ pub all_passed : (sep n k : ℕ) (s : List ℕ) → n ≤ k → from_field sep (
 unfolding from_field
 all_passed sep n k s l = let e : n - k ≡ 0 = omega arith in rw e
 
--- two texts are the same where the library says so
-pub same_is : (a b : List ℕ) → same_text a b ≡ pointwise eqb a b
+-- texts of another length are not the same
+pub other_length : (a b : List ℕ) → (length a ≡ length b → ⊥) → false ≡ same_text a b
 unfolding same_text
-same_is [] [] = refl
-same_is [] (y ∷ ys) = refl
-same_is (x ∷ xs) [] = refl
-same_is (x ∷ xs) (y ∷ ys) = on_test (eqb x y) (λ e. rw (e, same_is xs ys)) (λ e. rw e)
+other_length [] [] h = absurd (h refl)
+other_length [] (y ∷ ys) h = refl
+other_length (x ∷ xs) [] h = refl
+other_length (x ∷ xs) (y ∷ ys) h = on_test (eqb x y) (λ e. rw e (other_length xs ys (λ l. h (ap suc l)))) (λ e. rw e)
+
+-- the bytes at a place differ, or agree, or there are none
+swapped : (p q r : Bool) → both (both p q) r ≡ both q (both p r)
+swapped true q r = refl
+swapped false true r = refl
+swapped false false r = refl
+
+-- the bytes at a place agree, and all did before
+pub all_so_far : (all now : Bool) → (all && now) ≡ both now all
+all_so_far true true = refl
+all_so_far true false = refl
+all_so_far false true = refl
+all_so_far false false = refl
+
+pub same-on : (a b : List ℕ) (i x y : ℕ) (all more : Bool) → i < length a → length a ≡ length b → x ≡ get_or a i 0 → y ≡ get_or b i 0 → more ≡ both (eqb x y) all
+    → both more (same_text (drop (i + 1) a) (drop (i + 1) b)) ≡ both all (same_text (drop i a) (drop i b))
+unfolding same_text
+same-on a b i x y all more l e p q h =
+    let m : i < length b = omega arith in
+    rw (add-one i, drop-cons a i 0 l, drop-cons b i 0 m, ← p, ← q, h) (swapped (eqb x y) all _)
+
+pub all_seen : (all s : Bool) → true ≡ s → all ≡ both all s
+all_seen true s h = h
+all_seen false s h = refl
+
+pub none_left : (a b : List ℕ) (i : ℕ) → length a ≤ i → length a ≡ length b → true ≡ same_text (drop i a) (drop i b)
+unfolding same_text
+none_left a b i l e = rw (drop_of_length-le a {i = i} l, drop_of_length-le b {i = i} (omega arith))
 
 -- the place of a word is that of the first number at which the words are the same
 place_from : (words one : List ℕ) (k n : ℕ) → word_place_from k n words one ≡ unwrap_or (find (λ j. same_text (word_of j words) one) (range_with_len n k)) (n + k)

@@ -47,13 +47,14 @@ fn alter_named(row: &[u8]) -> Call
     named(
         row,
         2,
+        b"line good last kept queued key",
         &[
-            (b"line", Call::Alter(Field::Line)),
-            (b"good", Call::Alter(Field::Good)),
-            (b"last", Call::Alter(Field::Last)),
-            (b"kept", Call::Alter(Field::Kept)),
-            (b"queued", Call::Alter(Field::Queued)),
-            (b"key", Call::Alter(Field::Key)),
+            Call::Alter(Field::Line),
+            Call::Alter(Field::Good),
+            Call::Alter(Field::Last),
+            Call::Alter(Field::Kept),
+            Call::Alter(Field::Queued),
+            Call::Alter(Field::Key),
         ],
     )
     .unwrap_or(Call::Unknown)
@@ -66,18 +67,19 @@ fn call_named(row: &[u8]) -> Call
     named(
         row,
         1,
+        b"start tick queue set key hear alter show clear_queue clear_set due",
         &[
-            (b"start", Call::Quiet(Quiet::Start)),
-            (b"tick", Call::Quiet(Quiet::Tick)),
-            (b"queue", Call::Quiet(Quiet::Queue)),
-            (b"set", Call::Quiet(Quiet::Set)),
-            (b"key", Call::Quiet(Quiet::Key)),
-            (b"hear", Call::Hear),
-            (b"alter", alter_named(row)),
-            (b"show", Call::Show),
-            (b"clear_queue", Call::Quiet(Quiet::ClearQueue)),
-            (b"clear_set", Call::Quiet(Quiet::ClearSet)),
-            (b"due", Call::Due),
+            Call::Quiet(Quiet::Start),
+            Call::Quiet(Quiet::Tick),
+            Call::Quiet(Quiet::Queue),
+            Call::Quiet(Quiet::Set),
+            Call::Quiet(Quiet::Key),
+            Call::Hear,
+            alter_named(row),
+            Call::Show,
+            Call::Quiet(Quiet::ClearQueue),
+            Call::Quiet(Quiet::ClearSet),
+            Call::Due,
         ],
     )
     .unwrap_or(Call::Unknown)

@@ -42,11 +42,12 @@ fn alter_named(row: &[u8]) -> Call
     named(
         row,
         2,
+        b"line number count operation",
         &[
-            (b"line", Call::Alter(Field::Line)),
-            (b"number", Call::Alter(Field::Number)),
-            (b"count", Call::Alter(Field::Count)),
-            (b"operation", Call::Alter(Field::Operation)),
+            Call::Alter(Field::Line),
+            Call::Alter(Field::Number),
+            Call::Alter(Field::Count),
+            Call::Alter(Field::Operation),
         ],
     )
     .unwrap_or(Call::Unknown)
@@ -59,14 +60,15 @@ fn call_named(row: &[u8]) -> Call
     named(
         row,
         1,
+        b"start tick offer hear alter show due",
         &[
-            (b"start", Call::Start),
-            (b"tick", Call::Sends(Sends::Tick)),
-            (b"offer", Call::Sends(Sends::Offer)),
-            (b"hear", Call::Sends(Sends::Hear)),
-            (b"alter", alter_named(row)),
-            (b"show", Call::Show),
-            (b"due", Call::Due),
+            Call::Start,
+            Call::Sends(Sends::Tick),
+            Call::Sends(Sends::Offer),
+            Call::Sends(Sends::Hear),
+            alter_named(row),
+            Call::Show,
+            Call::Due,
         ],
     )
     .unwrap_or(Call::Unknown)
