@@ -10,7 +10,7 @@ use tracing::edits::{first_line, FORM};
 use tracing::pages::{
     cited, parts, promised, promises, rows, rules, traced, uncoded, Row, COLUMNS,
 };
-use tracing::tree::{declared, function, in_input, items, sources, Tree};
+use tracing::tree::{block, declared, function, in_input, items, sources, Block, Function, Tree};
 use tracing::{none, repository, text};
 
 const RULES: &str = "docs/RULES.md";
@@ -166,17 +166,74 @@ fn each_public_function_has_a_rule() {
     none(&faults);
 }
 
+/// A file and line, taken apart.
+fn place(at: &str) -> (&str, usize) {
+    let (path, line) = at.rsplit_once(':').expect("a place");
+    (path, line.parse().expect("a number"))
+}
+
+/// The text of a file from a line on.
+fn from(at: &str) -> String {
+    let (path, line) = place(at);
+    text(path)
+        .lines()
+        .skip(line - 1)
+        .map(|line| line.to_string() + "\n")
+        .collect()
+}
+
+/// The ghost facts that an implementation says before the method at a line.
+fn facts(at: &str) -> Vec<String> {
+    let (path, line) = place(at);
+    let page = text(path);
+    let front: Vec<_> = page.lines().take(line - 1).collect();
+    let begun = front
+        .iter()
+        .rposition(|line| line.starts_with("impl "))
+        .unwrap_or(0);
+    let said = front[begun..]
+        .iter()
+        .filter_map(|line| line.trim_start().strip_prefix("ghost "));
+    said.filter_map(|line| line.split_once(" = ").map(|(name, _)| name.to_string()))
+        .collect()
+}
+
 /// The types of states.
 const STATES: [&str; 5] = ["Desk", "Master", "Gatherer", "Lister", "Replayer"];
+
+/// The traits of states.
+const OF_STATES: [&str; 2] = ["Put", "State"];
 
 /// Whether a function takes a line or a state, by its name and the text of its file from its line on.
 fn takes_a_state(name: &str, behind: &str) -> bool {
     let taken = behind.split(')').next().unwrap_or("");
+    let takes =
+        |kind: &str| taken.contains(&format!(": {kind}")) || taken.contains(&format!(": &{kind}"));
     let of = |state: &&str| {
-        let own = name.contains(&format!("::{state}::")) && taken.contains("(self");
-        own || taken.contains(&format!(": {state}"))
+        let own = ["::", " for "]
+            .iter()
+            .any(|front| name.contains(&format!("{front}{state}::")));
+        let itself = ["(self", "(&self", "(&mut self"]
+            .iter()
+            .any(|word| taken.contains(word));
+        own && itself || takes(state)
     };
-    taken.contains("line: u8") || STATES.iter().any(|state| of(&state))
+    let generic = |kind: &&str| {
+        let bound = taken.split_once(&format!(": {kind}"));
+        let letter = bound.and_then(|(front, _)| front.rsplit(['<', ' ']).next());
+        letter.is_some_and(takes)
+    };
+    taken.contains("line: u8") || STATES.iter().any(of) || OF_STATES.iter().any(generic)
+}
+
+/// The lines of a function's head: its clauses too, and what its body begins with is not read.
+fn head(behind: &[&str]) -> Vec<String> {
+    let last = |line: &&str| line.ends_with(['{', ';']);
+    let end = behind.iter().position(last).unwrap_or(0);
+    behind[..=end]
+        .iter()
+        .map(|line| line.trim_start().to_string())
+        .collect()
 }
 
 /// A public function that takes a line or a state is a call, which may refuse 15, or is listed as a part.
@@ -192,11 +249,8 @@ fn each_part_is_listed() {
     let parts: BTreeSet<_> = parts(&page).into_iter().collect();
     let mut faults = Vec::new();
     for (name, function) in tree.functions.iter().filter(|(_, f)| f.public) {
-        let (path, line) = function.at.rsplit_once(':').expect("a place");
-        let line: usize = line.parse().expect("a number");
-        let source = text(path);
-        let behind: Vec<_> = source.lines().skip(line - 1).collect();
-        if name.starts_with("in656 ") || !takes_a_state(name, &behind.join(" ")) {
+        let behind = from(&function.at).replace('\n', " ");
+        if name.starts_with("in656 ") || !takes_a_state(name, &behind) {
             continue;
         }
         if calls.contains(name) == parts.contains(name) {
@@ -213,26 +267,38 @@ fn each_part_is_listed() {
     none(&faults);
 }
 
+/// Whether a line of a function's head begins with a word.
+fn has(function: &Function, word: &str) -> bool {
+    let source = from(&function.at);
+    let lines: Vec<_> = source.lines().collect();
+    head(&lines).iter().any(|line| line.starts_with(word))
+}
+
+/// Whether a function ensures something: itself, or by the trait's method that it implements, or by the
+/// fact `from_gives` of its implementation of `From`.
+fn ensures(tree: &Tree, name: &str, function: &Function) -> bool {
+    let of = function.of.as_ref().and_then(Block::implemented);
+    match (of, tree.implements(name, function)) {
+        (_, Some(method)) => has(method, "ensures "),
+        (Some("From"), None) => facts(&function.at).iter().any(|fact| fact == "from_gives"),
+        _ => has(function, "ensures "),
+    }
+}
+
 /// No public function asks anything of its caller, and each of a library ensures something; the few
 /// of `stdio` that only read or write ensure nothing that could be said (DECISIONS 53).
 #[test]
 fn each_public_function_asks_nothing() {
     let mut faults = Vec::new();
-    for (name, function) in Tree::read().functions.iter().filter(|(_, f)| f.public) {
-        let (path, line) = function.at.rsplit_once(':').expect("a place");
-        let line: usize = line.parse().expect("a number");
-        let source = text(path);
-        let behind = source.lines().skip(line - 1);
-        let head: Vec<_> = behind.take_while(|l| !matches!(l.trim(), "{")).collect();
-        let head: Vec<_> = head.iter().map(|line| line.trim_start()).collect();
-        let has = |word: &str| head.iter().any(|line| line.starts_with(word));
-        if has("requires ") {
+    let tree = Tree::read();
+    for (name, function) in tree.functions.iter().filter(|(_, f)| f.public) {
+        if has(function, "requires ") {
             faults.push(format!(
                 "{}: `{name}` asks something of its caller",
                 function.at
             ));
         }
-        if !has("ensures ") && !name.starts_with("stdio ") {
+        if !ensures(&tree, name, function) && !name.starts_with("stdio ") {
             faults.push(format!("{}: `{name}` ensures nothing", function.at));
         }
     }
@@ -341,6 +407,20 @@ fn wrong_lines_are_seen() {
         Some(("put_end", false))
     );
     assert_eq!(function("// the fn word(s)"), None);
+    assert_eq!(
+        block("impl From<Next> for In656Result {"),
+        Some(Block::Both("From<Next>".into(), "In656Result".into()))
+    );
+    assert_eq!(block("impl Desk {"), Some(Block::Type("Desk".into())));
+    assert_eq!(
+        block("pub trait Put: Copy {"),
+        Some(Block::Trait("Put".into(), true))
+    );
+    assert_eq!(
+        block("pub(crate) trait Own {"),
+        Some(Block::Trait("Own".into(), false))
+    );
+    assert_eq!(block("use crate::layout::Put;"), None);
     let input = "a|R|3|x|y\n# figure 4.2, a fault\n# figure 4.20, none\n";
     assert!(in_input(input, "a") && in_input(input, "figure 4.2"));
     assert!(!in_input(input, "figure 4") && !in_input(input, "b") && !in_input(input, "R"));

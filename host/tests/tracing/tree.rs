@@ -7,10 +7,23 @@ use std::fs;
 use std::path::{Path, PathBuf};
 
 pub struct Function {
-    /// It is public, and of a library.
+    /// It is public, or a method of a public trait, and of a library.
     pub public: bool,
     /// Its file and line.
     pub at: String,
+    /// What it is a method of, where it stands in a trait or in an implementation.
+    pub of: Option<Block>,
+}
+
+/// What a line begins that has methods.
+#[derive(Clone, Debug, PartialEq)]
+pub enum Block {
+    /// `impl Type`.
+    Type(String),
+    /// `trait Trait`, and whether it is public.
+    Trait(String, bool),
+    /// `impl Trait for Type`.
+    Both(String, String),
 }
 
 pub struct Tree {
@@ -114,11 +127,45 @@ pub fn function(line: &str) -> Option<(&str, bool)> {
     Some((&behind[..end], public))
 }
 
+/// The trait, type or implementation of a trait that a line begins.
+pub fn block(line: &str) -> Option<Block> {
+    if let Some(behind) = line.strip_prefix("impl ") {
+        let behind = behind.trim_end_matches([' ', '{']).to_string();
+        let both = behind
+            .split_once(" for ")
+            .map(|(of, by)| Block::Both(of.into(), by.into()));
+        return Some(both.unwrap_or(Block::Type(behind)));
+    }
+    let rest = line.strip_prefix("pub(crate) ").unwrap_or(line);
+    let public = rest.strip_prefix("pub ");
+    let behind = public.unwrap_or(rest).strip_prefix("trait ")?;
+    let end = behind.find(|c: char| !c.is_alphanumeric() && c != '_')?;
+    Some(Block::Trait(behind[..end].into(), public.is_some()))
+}
+
+impl Block {
+    /// Its words in the name of a method.
+    pub fn name(&self) -> String {
+        match self {
+            Block::Type(name) | Block::Trait(name, _) => name.clone(),
+            Block::Both(of, by) => format!("{of} for {by}"),
+        }
+    }
+
+    /// The trait of an implementation, without what it is filled with.
+    pub fn implemented(&self) -> Option<&str> {
+        match self {
+            Block::Both(of, _) => of.split('<').next(),
+            _ => None,
+        }
+    }
+}
+
 /// The name of the type or constant that a line begins.
 pub fn item(line: &str) -> Option<&str> {
     let rest = line.strip_prefix("pub(crate) ").unwrap_or(line);
     let rest = rest.strip_prefix("pub ").unwrap_or(rest);
-    let mut kinds = ["const ", "enum ", "struct "].iter();
+    let mut kinds = ["const ", "enum ", "struct ", "type "].iter();
     let behind = kinds.find_map(|kind| rest.strip_prefix(kind))?;
     let end = behind.find(|c: char| !c.is_alphanumeric() && c != '_')?;
     Some(&behind[..end])
@@ -166,6 +213,7 @@ impl Tree {
         for folder in folders {
             tree.read_crate(&folder);
         }
+        tree.hide();
         for path in entries(&repository("host/tests"))
             .iter()
             .filter(|path| path.is_file())
@@ -201,30 +249,61 @@ impl Tree {
         let library = src.join("lib.rt").is_file();
         for path in files(src, "rt") {
             let module = module(src, &path, "::");
-            let mut of = String::new();
+            let mut of = None;
             let page = read(&path);
             let named = items(&page).into_iter();
             self.items
                 .extend(named.map(|name| format!("{krate} {module}::{name}")));
             for (i, line) in page.lines().enumerate() {
-                if let Some(behind) = line.strip_prefix("impl ") {
-                    of = format!("{}::", behind.trim_end_matches([' ', '{']));
+                if let Some(begun) = block(line) {
+                    of = Some(begun);
                 } else if line == "}" {
-                    of.clear();
+                    of = None;
                 } else if let Some((name, public)) = function(line) {
                     let at = format!(
                         "crates/{krate}/src/{}.rt:{}",
                         module.replace("::", "/"),
                         i + 1
                     );
-                    let public = public && library;
-                    self.functions.insert(
-                        format!("{krate} {module}::{of}{name}"),
-                        Function { public, at },
-                    );
+                    let open = match &of {
+                        Some(Block::Trait(_, open)) => *open,
+                        Some(Block::Both(..)) => true,
+                        _ => public,
+                    };
+                    let front = of.as_ref().map_or(String::new(), |b| b.name() + "::");
+                    let function = Function {
+                        public: open && library,
+                        at,
+                        of: of.clone(),
+                    };
+                    let name = format!("{krate} {module}::{front}{name}");
+                    self.functions.insert(name, function);
                 }
             }
         }
+    }
+
+    /// Takes what implements a trait that is not public out of the public functions.
+    fn hide(&mut self) {
+        let hidden = |f: &Function| match &f.of {
+            Some(Block::Trait(name, false)) => Some(name.clone()),
+            _ => None,
+        };
+        let hidden: BTreeSet<_> = self.functions.values().filter_map(hidden).collect();
+        for function in self.functions.values_mut() {
+            let of = function.of.as_ref().and_then(Block::implemented);
+            function.public &= !of.is_some_and(|name| hidden.contains(name));
+        }
+    }
+
+    /// The method of the repository's own trait that this function implements.
+    pub fn implements(&self, name: &str, function: &Function) -> Option<&Function> {
+        let of = function.of.as_ref().and_then(Block::implemented)?;
+        let end = format!("::{of}::{}", name.rsplit_once("::")?.1);
+        let mut own = self.functions.iter();
+        let is = |f: &Function| matches!(f.of, Some(Block::Trait(..)));
+        own.find(|(name, f)| is(f) && name.ends_with(&end))
+            .map(|(_, f)| f)
     }
 
     fn read_edit(&mut self, krate: &str, path: &Path) {
